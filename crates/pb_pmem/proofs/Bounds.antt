@@ -1,0 +1,275 @@
+-- The rules for one more operation: what is then known of the images that a crash may leave.
+use Rattle.std.proofs.Common.{◌≡◌, ◌≢◌, ℕ, ◌⊎◌, Bool, true, false, not, ◌||◌, ◌&&◌, ◌==◌, List, [], ◌∷◌, Some, slice_index, ap, subst, sym, refl, ◌∙◌, inl, inr}
+use Rattle.std.proofs.lemmas.Bool.{false≢true}
+use Rattle.std.proofs.lemmas.Bool.Decides.{eqb_tells}
+use Rattle.std.proofs.Math.Path.{fun_ext}
+use Rattle.pb_pmem.specs.declared.line.Line.{Line}
+use Rattle.pb_pmem.specs.declared.log.LogOp.{LogOp}
+use Rattle.pb_pmem.specs.declared.log.LogOp.TheVariants.{Whole, Word, Back, Fence, Sync}
+use Rattle.pb_pmem.specs.Contents.{applied}
+use Rattle.pb_pmem.specs.Crash.{is_mark, is_sync, is_back_of, line_written, MayWrite}
+use Rattle.pb_pmem.specs.Lines.{word_of}
+use Rattle.pb_pmem.specs.Past.{Words, now, Held, Last, AllHeld, AllLast, Leaves, writes_line, is_clean, DiffersBy, IsGiven, Bounds}
+use Rattle.pb_pmem.proofs.Held.{Back-writes_none, MayWrite-writes, Held-cases, Held-at_none, Held-now, Last-cases, Last-at_none, Last-now, Leaves-cases, Leaves-at_none, Leaves-Held, Leaves-Last}
+use Rattle.pb_pmem.proofs.Words.{applied-none, line_at-applied_other, now-none, now-more}
+
+-- a write is no mark and no `Back`
+write-no_mark : (op : LogOp) (at : ℕ) → line_written op ≡ Some at → is_mark op ≡ false
+write-no_mark (Whole line to) at e = refl
+write-no_mark (Word line word to) at e = refl
+write-no_mark (Back first count) at e = refl
+write-no_mark Fence at e = cc
+write-no_mark Sync at e = cc
+
+write-no_sync : (op : LogOp) (at : ℕ) → line_written op ≡ Some at → is_sync op ≡ false
+write-no_sync (Whole line to) at e = refl
+write-no_sync (Word line word to) at e = refl
+write-no_sync (Back first count) at e = refl
+write-no_sync Fence at e = refl
+write-no_sync Sync at e = cc
+
+write-no_Back : (op : LogOp) (at line : ℕ) → line_written op ≡ Some at → is_back_of line op ≡ false
+write-no_Back (Whole at' to) at line e = refl
+write-no_Back (Word at' word to) at line e = refl
+write-no_Back (Back first count) at line e = cc
+write-no_Back Fence at line e = refl
+write-no_Back Sync at line e = refl
+
+-- an image at the greatest cut comes from one before, which differs only where the operation may have written
+pub Last-before : (base : List Line) (op : LogOp) (past : List LogOp) (image : Words) → is_mark op ≡ false → AllLast base (op ∷ past) image → (before : Words) × AllLast base past before × DiffersBy op before image
+Last-before base op past image other h =
+    ((λ line word. before line word (at line word)), (λ line word. allowed line word (at line word)), (λ line word. differs line word (at line word)))
+  where
+    at : (line word : ℕ) → MayWrite line word (image line word) op ⊎ Last base past line word (image line word)
+    at line word = go (Last-cases base op past line word (image line word) (h line word))
+      where
+        go : ((is_mark op ≡ true) × Held base past line word (image line word)) ⊎ ((is_mark op ≡ false) × (MayWrite line word (image line word) op ⊎ Last base past line word (image line word))) → MayWrite line word (image line word) op ⊎ Last base past line word (image line word)
+        go (inl (mark, held)) = absurd (false≢true (sym other ∙ mark))
+        go (inr (no_mark, last)) = last
+
+    before : (line word : ℕ) → MayWrite line word (image line word) op ⊎ Last base past line word (image line word) → ℕ
+    before line word (inl written) = word_of (now base past) line word
+    before line word (inr last) = image line word
+
+    allowed : (line word : ℕ) (s : MayWrite line word (image line word) op ⊎ Last base past line word (image line word)) → Last base past line word (before line word s)
+    allowed line word (inl written) = Last-now base past line word
+    allowed line word (inr last) = last
+
+    differs : (line word : ℕ) (s : MayWrite line word (image line word) op ⊎ Last base past line word (image line word)) → (image line word ≡ before line word s) ⊎ MayWrite line word (image line word) op
+    differs line word (inl written) = inr written
+    differs line word (inr last) = inl refl
+
+-- the same of what is held, behind a write
+pub Held-before : (base : List Line) (op : LogOp) (past : List LogOp) (image : Words) → ((line : ℕ) → is_back_of line op ≡ false) → AllHeld base (op ∷ past) image → (before : Words) × AllHeld base past before × DiffersBy op before image
+Held-before base op past image other h =
+    ((λ line word. before line word (at line word)), (λ line word. allowed line word (at line word)), (λ line word. differs line word (at line word)))
+  where
+    at : (line word : ℕ) → MayWrite line word (image line word) op ⊎ Held base past line word (image line word)
+    at line word = go (Held-cases base op past line word (image line word) (h line word))
+      where
+        go : ((is_back_of line op ≡ true) × (image line word ≡ word_of (now base past) line word)) ⊎ ((is_back_of line op ≡ false) × (MayWrite line word (image line word) op ⊎ Held base past line word (image line word))) → MayWrite line word (image line word) op ⊎ Held base past line word (image line word)
+        go (inl (back, same)) = absurd (false≢true (sym (other line) ∙ back))
+        go (inr (no_back, held)) = held
+
+    before : (line word : ℕ) → MayWrite line word (image line word) op ⊎ Held base past line word (image line word) → ℕ
+    before line word (inl written) = word_of (now base past) line word
+    before line word (inr held) = image line word
+
+    allowed : (line word : ℕ) (s : MayWrite line word (image line word) op ⊎ Held base past line word (image line word)) → Held base past line word (before line word s)
+    allowed line word (inl written) = Held-now base past line word
+    allowed line word (inr held) = held
+
+    differs : (line word : ℕ) (s : MayWrite line word (image line word) op ⊎ Held base past line word (image line word)) → (image line word ≡ before line word s) ⊎ MayWrite line word (image line word) op
+    differs line word (inl written) = inr written
+    differs line word (inr held) = inl refl
+
+-- a `Back` takes nothing away at the greatest cut
+pub Last-behind_Back : (base : List Line) (first count : ℕ) (past : List LogOp) (image : Words) → AllLast base (Back first count ∷ past) image → AllLast base past image
+Last-behind_Back base first count past image h line word =
+    go (Last-cases base (Back first count) past line word (image line word) (h line word))
+  where
+    go : ((false ≡ true) × Held base past line word (image line word)) ⊎ ((false ≡ false) × (⊥ ⊎ Last base past line word (image line word))) → Last base past line word (image line word)
+    go (inl (mark, held)) = absurd (false≢true mark)
+    go (inr (other, inl written)) = absurd written
+    go (inr (other, inr last)) = last
+
+-- what is held behind a `Back` was held before, and its lines are the contents
+pub Held-behind_Back : (base : List Line) (first count : ℕ) (past : List LogOp) (image : Words) → AllHeld base (Back first count ∷ past) image → AllHeld base past image
+Held-behind_Back base first count past image h line word =
+    go (Held-cases base (Back first count) past line word (image line word) (h line word))
+  where
+    go : ((is_back_of line (Back first count) ≡ true) × (image line word ≡ word_of (now base past) line word)) ⊎ ((is_back_of line (Back first count) ≡ false) × (⊥ ⊎ Held base past line word (image line word))) → Held base past line word (image line word)
+    go (inl (back, same)) = subst (λ x. Held base past line word x) (sym same) (Held-now base past line word)
+    go (inr (other, inl written)) = absurd written
+    go (inr (other, inr held)) = held
+
+pub Held-given : (base : List Line) (first count : ℕ) (past : List LogOp) (image : Words) → AllHeld base (Back first count ∷ past) image → IsGiven (Back first count) (now base past) image
+Held-given base first count past image h line word back =
+    go (Held-cases base (Back first count) past line word (image line word) (h line word))
+  where
+    go : ((is_back_of line (Back first count) ≡ true) × (image line word ≡ word_of (now base past) line word)) ⊎ ((is_back_of line (Back first count) ≡ false) × (⊥ ⊎ Held base past line word (image line word))) → image line word ≡ word_of (now base past) line word
+    go (inl (b, same)) = same
+    go (inr (other, h)) = absurd (false≢true (sym other ∙ back))
+
+-- a mark writes nothing
+Held-behind_mark : (base : List Line) (op : LogOp) (past : List LogOp) (image : Words) → (op ≡ Fence) ⊎ (op ≡ Sync) → AllHeld base (op ∷ past) image → AllHeld base past image
+Held-behind_mark base op past image which h line word =
+    go which (Held-cases base op past line word (image line word) (h line word))
+  where
+    go : (op ≡ Fence) ⊎ (op ≡ Sync) → ((is_back_of line op ≡ true) × (image line word ≡ word_of (now base past) line word)) ⊎ ((is_back_of line op ≡ false) × (MayWrite line word (image line word) op ⊎ Held base past line word (image line word))) → Held base past line word (image line word)
+    go which (inl (back, same)) = subst (λ x. Held base past line word x) (sym same) (Held-now base past line word)
+    go (inl fence) (inr (other, inl written)) = absurd (subst (λ o. MayWrite line word (image line word) o) fence written)
+    go (inr sync) (inr (other, inl written)) = absurd (subst (λ o. MayWrite line word (image line word) o) sync written)
+    go which (inr (other, inr held)) = held
+
+Last-at_mark : (base : List Line) (op : LogOp) (past : List LogOp) (image : Words) → is_mark op ≡ true → AllLast base (op ∷ past) image → AllHeld base past image
+Last-at_mark base op past image mark h line word =
+    go (Last-cases base op past line word (image line word) (h line word))
+  where
+    go : ((is_mark op ≡ true) × Held base past line word (image line word)) ⊎ ((is_mark op ≡ false) × (MayWrite line word (image line word) op ⊎ Last base past line word (image line word))) → Held base past line word (image line word)
+    go (inl (m, held)) = held
+    go (inr (other, h)) = absurd (false≢true (sym other ∙ mark))
+
+-- The set of images
+
+-- behind a write, a crash leaves what it might leave before, or an image of the new greatest cut
+pub Leaves-behind_other : (base : List Line) (op : LogOp) (past : List LogOp) (image : Words) → is_sync op ≡ false → Leaves base (op ∷ past) image → AllLast base (op ∷ past) image ⊎ Leaves base past image
+Leaves-behind_other base op past image other h = go (Leaves-cases base op past image h)
+  where
+    go : ((is_sync op ≡ true) × AllHeld base past image) ⊎ ((is_sync op ≡ false) × (AllLast base (op ∷ past) image ⊎ Leaves base past image)) → AllLast base (op ∷ past) image ⊎ Leaves base past image
+    go (inl (sync, held)) = absurd (false≢true (sym other ∙ sync))
+    go (inr (o, h)) = h
+
+-- a `Back` adds no image
+pub Leaves-behind_Back : (base : List Line) (first count : ℕ) (past : List LogOp) (image : Words) → Leaves base (Back first count ∷ past) image → Leaves base past image
+Leaves-behind_Back base first count past image h =
+    go (Leaves-behind_other base (Back first count) past image refl h)
+  where
+    go : AllLast base (Back first count ∷ past) image ⊎ Leaves base past image → Leaves base past image
+    go (inl last) = Leaves-Last base past image (Last-behind_Back base first count past image last)
+    go (inr leaves) = leaves
+
+-- and neither does a `Fence`
+pub Leaves-behind_Fence : (base : List Line) (past : List LogOp) (image : Words) → Leaves base (Fence ∷ past) image → Leaves base past image
+Leaves-behind_Fence base past image h = go (Leaves-behind_other base Fence past image refl h)
+  where
+    go : AllLast base (Fence ∷ past) image ⊎ Leaves base past image → Leaves base past image
+    go (inl last) = Leaves-Held base past image (Last-at_mark base Fence past image refl last)
+    go (inr leaves) = leaves
+
+-- behind a `Sync` a crash leaves what is held
+pub Leaves-behind_Sync : (base : List Line) (past : List LogOp) (image : Words) → Leaves base (Sync ∷ past) image → AllHeld base past image
+Leaves-behind_Sync base past image h = go (Leaves-cases base Sync past image h)
+  where
+    go : ((true ≡ true) × AllHeld base past image) ⊎ ((true ≡ false) × (AllLast base (Sync ∷ past) image ⊎ Leaves base past image)) → AllHeld base past image
+    go (inl (sync, held)) = held
+    go (inr (other, h)) = absurd (false≢true (sym other))
+
+-- The rules
+
+-- the start: the one image is the base
+pub Bounds-none : (base : List Line) (P : Words → Type 0) → P (word_of base) → Bounds base [] P P P
+Bounds-none base P h =
+    record {
+      all = λ image leaves. at image (λ line word. Last-at_none base line word (image line word) (Leaves-at_none base image leaves line word));
+      last = λ image last. at image (λ line word. Last-at_none base line word (image line word) (last line word));
+      held = λ image held. at image (λ line word. Held-at_none base line word (image line word) (held line word));
+    }
+  where
+    at : (image : Words) → ((line word : ℕ) → image line word ≡ word_of base line word) → P image
+    at image same = subst P (sym (fun_ext (λ line. fun_ext (λ word. same line word)))) h
+
+-- a write: the images of the greatest cut and the held ones differ from those before only where it wrote
+pub Bounds-write : {base : List Line} {past : List LogOp} {A T S : Words → Type 0} (op : LogOp) (at : ℕ) (A' T' S' : Words → Type 0) → line_written op ≡ Some at → Bounds base past A T S → ((before image : Words) → T before → DiffersBy op before image → T' image) → ((before image : Words) → S before → DiffersBy op before image → S' image) → ((image : Words) → A image → A' image) → ((image : Words) → T' image → A' image) → Bounds base (op ∷ past) A' T' S'
+Bounds-write {base} {past} {A} {T} {S} op at A' T' S' written bounds new_last new_held old new =
+    record { all = all; last = last; held = held }
+  where
+    last : (image : Words) → AllLast base (op ∷ past) image → T' image
+    last image h = let b = Last-before base op past image (write-no_mark op at written) h in new_last b.0 image (bounds.last b.0 b.1) b.2
+
+    held : (image : Words) → AllHeld base (op ∷ past) image → S' image
+    held image h =
+        let b = Held-before base op past image (λ line. write-no_Back op at line written) h in
+        new_held b.0 image (bounds.held b.0 b.1) b.2
+
+    all : (image : Words) → Leaves base (op ∷ past) image → A' image
+    all image h = go (Leaves-behind_other base op past image (write-no_sync op at written) h)
+      where
+        go : AllLast base (op ∷ past) image ⊎ Leaves base past image → A' image
+        go (inl l) = new image (last image l)
+        go (inr l) = old image (bounds.all image l)
+
+-- a `Back`: the held images have its lines from the contents
+pub Bounds-Back : {base : List Line} {past : List LogOp} {A T S : Words → Type 0} (first count : ℕ) (S' : Words → Type 0) → Bounds base past A T S → ((image : Words) → S image → IsGiven (Back first count) (now base past) image → S' image) → Bounds base (Back first count ∷ past) A T S'
+Bounds-Back {base} {past} first count S' bounds given =
+    record {
+      all = λ image h. bounds.all image (Leaves-behind_Back base first count past image h);
+      last = λ image h. bounds.last image (Last-behind_Back base first count past image h);
+      held = λ image h. given image (bounds.held image (Held-behind_Back base first count past image h)) (Held-given base first count past image h);
+    }
+
+-- a `Fence`: the greatest cut allows what was held
+pub Bounds-Fence : {base : List Line} {past : List LogOp} {A T S : Words → Type 0} → Bounds base past A T S → Bounds base (Fence ∷ past) A S S
+Bounds-Fence {base} {past} bounds =
+    record {
+      all = λ image h. bounds.all image (Leaves-behind_Fence base past image h);
+      last = λ image h. bounds.held image (Last-at_mark base Fence past image refl h);
+      held = λ image h. bounds.held image (Held-behind_mark base Fence past image (inl refl) h);
+    }
+
+-- a `Sync`: a crash leaves what was held
+pub Bounds-Sync : {base : List Line} {past : List LogOp} {A T S : Words → Type 0} → Bounds base past A T S → Bounds base (Sync ∷ past) S S S
+Bounds-Sync {base} {past} bounds =
+    record {
+      all = λ image h. bounds.held image (Leaves-behind_Sync base past image h);
+      last = λ image h. bounds.held image (Last-at_mark base Sync past image refl h);
+      held = λ image h. bounds.held image (Held-behind_mark base Sync past image (inr refl) h);
+    }
+
+-- less may be said
+pub Bounds-weaker : {base : List Line} {past : List LogOp} {A T S : Words → Type 0} (A' T' S' : Words → Type 0) → Bounds base past A T S → ((image : Words) → A image → A' image) → ((image : Words) → T image → T' image) → ((image : Words) → S image → S' image) → Bounds base past A' T' S'
+Bounds-weaker A' T' S' bounds all last held =
+    record {
+      all = λ image h. all image (bounds.all image h);
+      last = λ image h. last image (bounds.last image h);
+      held = λ image h. held image (bounds.held image h);
+    }
+
+-- Clean lines
+
+-- a line whose last write has a `Back` behind it is held as it is
+pub Held-clean : (base : List Line) (past : List LogOp) (line word value : ℕ) → is_clean line past ≡ true → Held base past line word value → value ≡ word_of (now base past) line word
+unfolding is_clean
+Held-clean base [] line word value clean h =
+    Held-at_none base line word value h ∙ sym (ap (λ lines. word_of lines line word) (now-none base))
+Held-clean base (op ∷ past) line word value clean h =
+    go (Held-clean base past line word value) (Held-cases base op past line word value h)
+  where
+    longer : word_of (applied op (now base past)) line word ≡ word_of (now base (op ∷ past)) line word
+    longer = ap (λ lines. word_of lines line word) (sym (now-more base op past))
+
+    not_written : (b c : Bool) → b ≡ false → (b || (not (writes_line line (line_written op)) && c)) ≡ true → (writes_line line (line_written op) ≡ false) × (c ≡ true)
+    not_written b c e h = split (writes_line line (line_written op)) c (rw e at h)
+      where
+        split : (w d : Bool) → (not w && d) ≡ true → (w ≡ false) × (d ≡ true)
+        split true d h = absurd (false≢true h)
+        split false d h = (refl, h)
+
+    other_line : writes_line line (line_written op) ≡ false → line_written op ≢ Some line
+    other_line e some = same (eqb_tells line line)
+      where
+        same : ((line == line) ≡ true) × (line ≡ line) ⊎ ((line == line) ≡ false) × (line ≢ line) → ⊥
+        same (inl (t, r)) = false≢true (sym (rw some at e) ∙ t)
+        same (inr (f, n)) = n refl
+
+    still : writes_line line (line_written op) ≡ false → word_of (applied op (now base past)) line word ≡ word_of (now base past) line word
+    still e = ap (λ (l : Line). slice_index l.words word) (line_at-applied_other op (now base past) line (other_line e))
+
+    go : (is_clean line past ≡ true → Held base past line word value → value ≡ word_of (now base past) line word) → ((is_back_of line op ≡ true) × (value ≡ word_of (now base past) line word)) ⊎ ((is_back_of line op ≡ false) × (MayWrite line word value op ⊎ Held base past line word value)) → value ≡ word_of (now base (op ∷ past)) line word
+    go before (inl (back, same)) =
+        same ∙ (sym (ap (λ lines. word_of lines line word) (applied-none op (now base past) (Back-writes_none line op back))) ∙ longer)
+    go before (inr (other, inl written)) =
+        absurd (other_line (not_written (is_back_of line op) (is_clean line past) other clean).0 (MayWrite-writes line word value op written))
+    go before (inr (other, inr held)) =
+        let p = not_written (is_back_of line op) (is_clean line past) other clean in
+        before p.1 held ∙ (sym (still p.0) ∙ longer)

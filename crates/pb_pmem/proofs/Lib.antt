@@ -1,0 +1,9 @@
+pub mod Agree
+pub mod Backed
+pub mod Bounds
+pub mod Held
+pub mod Lines
+pub mod Marks
+pub mod Rest
+pub mod Some
+pub mod Words

@@ -1,0 +1,6 @@
+pub mod Contents
+pub mod Count
+pub mod Crash
+pub mod Device
+pub mod Lines
+pub mod Past

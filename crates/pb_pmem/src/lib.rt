@@ -1,0 +1,11 @@
+//! Persistent memory: lines, the log of operations on them, and the trait of devices.
+#![tactic(auto)]
+
+mod device;
+pub mod laws;
+mod line;
+mod log;
+
+pub use device::{DeviceFault, Pmem, PmemFault};
+pub use line::{LINES, Line};
+pub use log::LogOp;

@@ -1,0 +1,20 @@
+ghost use Rattle.std.specs.Prelude.{◌≡◌, length, replicate};
+
+/// How many lines a device has.
+pub const LINES: u32 = 2048;
+
+/// Eight words, the piece in which a device is read and written back. As bytes it is 64 bytes, each word little-endian.
+#[derive(Clone, Copy, Debug, PartialEq, Eq)]
+pub struct Line {
+    /// The words, in their order on the device.
+    pub words: [u64; 8],
+    pub ghost eight: { length words ≡ 8 },
+}
+
+impl Default for Line {
+    ghost is_default = { λ line. line.words ≡ replicate 8 0 };
+
+    fn default() -> Self {
+        Line { words: [0; 8] }
+    }
+}
