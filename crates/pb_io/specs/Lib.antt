@@ -1,0 +1,5 @@
+pub mod Counts
+pub mod SinkBytes
+pub mod SinkState
+pub mod SourceState
+pub mod Standard
