@@ -1,0 +1,4 @@
+pub mod Numbers
+mod LawLemmas
+pub mod ObjectLinesLemmas
+pub mod RisingLemmas

@@ -1,0 +1,15 @@
+pub mod Codes
+pub mod Heap
+pub mod History
+pub mod ItemLines
+pub mod Laws
+pub mod Map
+pub mod MapLines
+pub mod Number
+pub mod Object
+pub mod ObjectLines
+pub mod Queue
+pub mod Request
+pub mod Stack
+pub mod Standing
+pub mod Text

@@ -1,0 +1,33 @@
+-- Operations and replies.
+use Rattle.std.specs.Prelude.{◌≡◌, ℕ, ◌<◌, IsSomeAnd}
+use Rattle.pb_object.specs.declared.kind.Kind.{Kind}
+use Rattle.pb_object.specs.declared.codes.Answer.{Answer}
+use Rattle.pb_object.specs.declared.request.Op.{Op}
+use Rattle.pb_object.specs.declared.request.Reply.{Reply}
+use Rattle.pb_object.specs.declared.request.Kept.{Kept}
+use Rattle.pb_object.specs.Codes.{action_of, action_kind, argument_count, answer_code}
+
+-- the arguments behind the first so many are 0
+pub record LeavesUnusedZero (used : ℕ) (op : Op) : Type 0 where
+  pub a : used < 1 → op.a ≡ 0
+  pub b : used < 2 → op.b ≡ 0
+  pub c : used < 3 → op.c ≡ 0
+
+-- an operation of this kind: its code is one of the kind's, and the arguments that it doesn't use are 0
+abbrev pub IsOperation : Kind → Op → Type 0
+IsOperation kind op = IsSomeAnd (action_of op.code) (λ action. (action_kind action ≡ kind) × LeavesUnusedZero (argument_count action) op)
+
+-- the reply that says this
+abbrev pub reply : Answer → ℕ → ℕ → Reply
+reply answer value extra = record { code = answer_code answer; value = value; extra = extra }
+
+-- what a state answers to an operation that isn't of its kind
+abbrev pub no_reply : Reply
+no_reply = record { code = 0; value = 0; extra = 0 }
+
+abbrev pub no_op : Op
+no_op = record { code = 0; a = 0; b = 0; c = 0 }
+
+-- no request was recorded yet
+abbrev pub none_kept : Kept
+none_kept = record { number = 0; op = no_op; reply = no_reply }

@@ -1,0 +1,40 @@
+//! What the objects promise in their own words: each law is the contract of a function that does nothing.
+ghost use Rattle.std.specs.Prelude.{◌≡◌, ◌+◌, ◌<◌, ◌≤◌, length, Some};
+ghost use Rattle.std.specs.List.{All};
+ghost use Rattle.pb_object.specs.declared.codes.Action.TheVariants.{Put, Push, Pop, RemoveMin, QueuePut, QueueTake};
+ghost use Rattle.pb_object.specs.Codes.{action_of};
+ghost use Rattle.pb_object.specs.Laws.{PutChangesItsRegister, PopUndoesPush, RemoveMinsRise, ItemsComeOutInOrder};
+ghost use Rattle.pb_object.specs.Queue.{tail_of, last_position};
+
+use crate::map::Register;
+use crate::queue::PlainQueue;
+use crate::request::Op;
+
+/// A put changes its register and no other.
+pub fn put_changes_its_register(registers: &[Register], put: &Op)
+    requires { action_of put.now.code ≡ Some Put }
+    ensures { PutChangesItsRegister registers.now put.now }
+{}
+
+/// A stack's pop undoes its push.
+pub fn pop_undoes_push(size: u32, items: &[u64], push: &Op, pop: &Op)
+    requires push { action_of push.now.code ≡ Some Push }
+    requires pop { action_of pop.now.code ≡ Some Pop }
+    requires room { length items.now < size }
+    ensures { PopUndoesPush size items.now push.now pop.now }
+{}
+
+/// What a heap's removemins give is rising, and an equal second item isn't lost.
+pub fn removemins_rise(size: u32, items: &[u64], removemin: &Op)
+    requires { action_of removemin.now.code ≡ Some RemoveMin }
+    ensures { RemoveMinsRise size items.now removemin.now }
+{}
+
+/// A queue's items come out in the order in which they went in.
+pub fn items_come_out_in_order(size: u32, queue: &PlainQueue, puts: &[Op], take: &Op)
+    requires puts { All (λ put. action_of put.code ≡ Some QueuePut) puts.now }
+    requires take { action_of take.now.code ≡ Some QueueTake }
+    requires room { length queue.now.items + length puts.now ≤ size }
+    requires positions { tail_of queue.now + length puts.now ≤ last_position }
+    ensures { ItemsComeOutInOrder size queue.now puts.now take.now }
+{}
