@@ -1,0 +1,12 @@
+pub mod Again
+pub mod Checks
+pub mod Decided
+pub mod Keeping
+pub mod Lines
+pub mod OneAnswer
+pub mod OneSided
+pub mod OneStanding
+pub mod Readers
+pub mod Records
+pub mod Replies
+pub mod Turn

@@ -1,0 +1,79 @@
+ghost use Rattle.std.specs.Prelude.{◌≡◌, IfOk, IfErr};
+ghost use Rattle.pb_layout.specs.Header.{IsHeader, header_line_of, IsHeaderFault};
+
+use crate::fault::LayoutFault;
+use crate::region::{first_record, record_len};
+use pb_object::Kind;
+use pb_pmem::Line;
+
+/// The first word of a region. As bytes, the lowest first, it is the ASCII text `PBCOMB01`.
+pub const MAGIC: u64 = 0x3130_424D_4F43_4250;
+
+/// What a region holds: the kind of its object, how many clients have lines in it, and the object's size.
+///
+/// A header that is used has 1 to 16 clients and a size of 1 to 1024, as `IsHeader` says.
+#[derive(Clone, Copy, Debug, PartialEq, Eq)]
+pub struct Header {
+    pub kind: Kind,
+    pub clients: u32,
+    pub size: u32,
+}
+
+/// Line 0 of a region with this header.
+pub fn header_line(head: &Header) -> Line
+    requires { IsHeader head.now }
+    ensures { result ≡ header_line_of head.now }
+{
+    Line {
+        words: [
+            MAGIC,
+            1,
+            head.kind.code(),
+            u64::from(head.clients),
+            u64::from(head.size),
+            u64::from(record_len(head)),
+            u64::from(first_record(head)),
+            0,
+        ],
+    }
+}
+
+/// The header that line 0 of a region spells.
+///
+/// `NoMagic` comes exactly where the first word isn't the magic, and `BadHeader` with the first word that the format refuses.
+pub fn header_of(line: &Line) -> Result<Header, LayoutFault>
+    ensures ok { IfOk result (λ head. IsHeader head × (line.now ≡ header_line_of head)) }
+    ensures refused { IfErr result (IsHeaderFault line.now) }
+{
+    let words = &line.words;
+    if words[0] != MAGIC {
+        return Err(LayoutFault::NoMagic);
+    }
+    if words[1] != 1 {
+        return Err(LayoutFault::BadHeader { word: 1 });
+    }
+    let Some(kind) = Kind::from_code(words[2]) else {
+        return Err(LayoutFault::BadHeader { word: 2 });
+    };
+    if words[3] < 1 || words[3] > 16 {
+        return Err(LayoutFault::BadHeader { word: 3 });
+    }
+    if words[4] < 1 || words[4] > 1024 {
+        return Err(LayoutFault::BadHeader { word: 4 });
+    }
+    let head = Header {
+        kind,
+        clients: words[3] as u32,
+        size: words[4] as u32,
+    };
+    if words[5] != u64::from(record_len(&head)) {
+        return Err(LayoutFault::BadHeader { word: 5 });
+    }
+    if words[6] != u64::from(first_record(&head)) {
+        return Err(LayoutFault::BadHeader { word: 6 });
+    }
+    if words[7] != 0 {
+        return Err(LayoutFault::BadHeader { word: 7 });
+    }
+    Ok(head)
+}

@@ -1,0 +1,20 @@
+//! The layout of a region: where its lines stand, and how a header, a client's request and a cell are written and read.
+#![tactic(auto)]
+
+mod cells;
+mod client;
+mod fault;
+mod header;
+pub mod laws;
+mod record;
+mod region;
+
+pub use cells::{cell, cell_of};
+pub use client::{client_line, client_of};
+pub use fault::LayoutFault;
+pub use header::{Header, MAGIC, header_line, header_of};
+pub use record::{count_line, record_of};
+pub use region::{cell_line, first_record, record_len, record_line};
+
+#[cfg(test)]
+mod tests;
