@@ -1,0 +1,5 @@
+pub mod Answer
+pub mod Crashed
+pub mod Kept
+pub mod Sort
+pub mod Steps
