@@ -1,0 +1,10 @@
+//! The versioned register map.
+#![tactic(auto)]
+
+mod lines;
+mod reg_map;
+
+pub use reg_map::RegMap;
+
+#[cfg(test)]
+mod tests;

@@ -1,0 +1,65 @@
+ghost use Rattle.std.specs.Prelude.{◌≡◌, ℕ, ◌+◌, ◌*◌, ◌/◌, ◌<◌, ◌≤◌, ◌↔◌, length, IsTrue, MatchOption, MatchResult};
+ghost use Rattle.pb_map.specs.Registers.{AreRegisters};
+ghost use Rattle.pb_object.specs.Map.{register_at};
+ghost use Rattle.pb_object.specs.MapLines.{register_in, IsRegisterAt, IsMapLine};
+ghost use Rattle.pb_object.specs.Object.{Registers};
+ghost use Rattle.pb_object.specs.ObjectLines.{StandFor, IsFirstRefused};
+
+use pb_object::{Kind, LAST_VERSION, NotAState, Register, put_register, register_in};
+use pb_pmem::Line;
+
+/// Writes the lines that stand for registers.
+pub fn put_registers(registers: &[Register], into: &mut [Line])
+    requires registers { AreRegisters registers.now }
+    requires count { length into.old ≡ (length registers.now + 3) / 4 }
+    ensures { StandFor into.new (Registers registers.now) }
+{
+    for key in 0..4 * into.len() {
+        put_register(into, key, register_or_empty(registers, key));
+    }
+}
+
+fn register_or_empty(registers: &[Register], key: usize) -> Register
+    ensures { result ≡ register_at registers.now key }
+{
+    registers.get(key).copied().unwrap_or_default()
+}
+
+/// Takes the registers that the lines stand for, or names the first line that the format refuses and takes none.
+pub fn take_registers(registers: &mut [Register], from: &[Line]) -> Result<(), NotAState>
+    requires most { length registers.old ≤ 1024 }
+    requires count { length from.now ≡ (length registers.old + 3) / 4 }
+    ensures { MatchResult result
+        (λ _. StandFor from.now (Registers registers.new))
+        (λ refused. IsFirstRefused Kind.Map (length registers.old) from.now refused.line × (registers.new ≡ registers.old)) }
+{
+    if let Some(line) = first_refused(registers.len(), from) {
+        return Err(NotAState { line });
+    }
+    for (key, register) in registers.iter_mut().enumerate() {
+        *register = register_in(from, key);
+    }
+    Ok(())
+}
+
+fn first_refused(size: usize, from: &[Line]) -> Option<u32>
+    requires { length from.now ≤ 1024 }
+    ensures { MatchOption result
+        ((line : ℕ) → line < length from.now → IsMapLine size from.now line)
+        (λ line. IsFirstRefused Kind.Map size from.now line) }
+{
+    for key in 0..4 * from.len() {
+        if !is_register_at(size, key, register_in(from, key)) {
+            return Some((key / 4) as u32);
+        }
+    }
+    None
+}
+
+fn is_register_at(size: usize, key: usize, register: Register) -> bool
+    ensures { IsTrue result ↔ IsRegisterAt size key register }
+{
+    register.version <= LAST_VERSION
+        && (register.version > 0 || register.value == 0)
+        && (key < size || register == Register::default())
+}
