@@ -1,0 +1,10 @@
+//! The bounded stack.
+#![tactic(auto)]
+
+mod lines;
+mod stack;
+
+pub use stack::Stack;
+
+#[cfg(test)]
+mod tests;
