@@ -1,0 +1,14 @@
+mod Bytes
+mod Histories
+mod LastPut
+mod Lists
+mod OneScript
+mod Operations
+mod PieceLemmas
+mod Plain
+mod PlainLines
+mod RunLemmas
+mod Served
+mod Stored
+mod TopLemmas
+mod WrittenLines

@@ -1,0 +1,12 @@
+pub mod History
+pub mod Laws
+pub mod Outcome
+pub mod Output
+pub mod Pieces
+pub mod Region
+pub mod Run
+pub mod Script
+pub mod Source
+pub mod Top
+pub mod Words
+pub mod Writes

@@ -1,0 +1,20 @@
+//! The broker: a script of requests in, its outcomes out, over an object on a device.
+#![tactic(auto)]
+
+pub mod laws;
+mod outcome;
+mod output;
+mod program;
+mod region;
+mod run;
+mod script;
+mod serve;
+mod source;
+mod status;
+mod stop;
+mod words;
+mod writes;
+
+pub use program::{Done, top};
+pub use source::SOURCE_LIMIT;
+pub use status::{DEVICE_FAULT, DONE, OUT_OF_MEMORY, READ_FAULT, REFUSED, USAGE, WRITE_FAULT};

@@ -1,0 +1,46 @@
+ghost use Rattle.std.specs.Prelude.{◌≡◌};
+ghost use Rattle.pb_broker.specs.declared.stop.Stop.TheVariants.{Memory, DeviceFault};
+
+use pb_pmem::PmemFault;
+use std::alloc::{AllocError, AllocFailed};
+
+/// Why a run ends before its outcomes.
+#[derive(Clone, Copy, Debug, PartialEq, Eq)]
+pub enum Stop {
+    /// Memory ran out.
+    Memory,
+    /// The words are no command.
+    Usage,
+    /// A read of the source failed.
+    ReadFault,
+    /// The source has too many bytes.
+    Long,
+    /// The line of the source with this number, counted from 1, is refused.
+    Line(u64),
+    /// A call of the device failed.
+    DeviceFault,
+}
+
+impl From<AllocError> for Stop {
+    ghost from_gives = { λ _ stop. stop ≡ Memory };
+
+    fn from(_: AllocError) -> Self {
+        Stop::Memory
+    }
+}
+
+impl<T: Drop> From<AllocFailed<T>> for Stop {
+    ghost from_gives = { λ _ stop. stop ≡ Memory };
+
+    fn from(_: AllocFailed<T>) -> Self {
+        Stop::Memory
+    }
+}
+
+impl From<PmemFault> for Stop {
+    ghost from_gives = { λ _ stop. stop ≡ DeviceFault };
+
+    fn from(_: PmemFault) -> Self {
+        Stop::DeviceFault
+    }
+}
