@@ -1,0 +1,5 @@
+//! Runs of the whole program, from words and bytes to bytes and a status.
+#![tactic(auto)]
+
+#[cfg(test)]
+mod fresh;

@@ -1,0 +1,49 @@
+//! The program: `pbcomb DEVICE WORDS`, a script on standard input, its outcomes on standard output.
+#![tactic(auto)]
+
+use pb_broker::{OUT_OF_MEMORY, top};
+use pb_image::Image;
+use pb_io::{OpenGate, StdSink, StdSource};
+use std::alloc::AllocError;
+use std::process::ExitCode;
+use std::rt::Env;
+use std::{env, io};
+
+/// The word for a trial device in memory, which is gone at the end.
+const TRIAL: &str = "-";
+
+/// How many operations a trial device has room for.
+const TRIAL_ROOM: u32 = 2_097_152;
+
+fn main(rt: HostRuntime) -> ExitCode {
+    ExitCode::from(run(&rt).unwrap_or(OUT_OF_MEMORY))
+}
+
+fn run<R: Env + Input + Print + AllocGlobal>(rt: &R) -> Result<u8, AllocError> {
+    let words = words(rt)?;
+    let command = match words.split_first() {
+        Some((device, command)) if device.as_str() == TRIAL => command,
+        _ => &[],
+    };
+    let device = Image::zero(rt.alloc(), TRIAL_ROOM)?;
+    let mut source = StdSource::new(rt.reader());
+    let mut sink = StdSink::new(io::writer(rt));
+    let done = top(
+        rt.alloc(),
+        command,
+        &mut source,
+        &mut sink,
+        device,
+        &OpenGate,
+    );
+    Ok(done.status)
+}
+
+/// The words behind the program's name, and none where one of them isn't UTF-8.
+fn words<R: Env + AllocGlobal>(rt: &R) -> Result<Vec<String>, AllocError> {
+    match env::args(rt) {
+        Ok(args) => args.skip(1).collect(rt.alloc()),
+        Err(error) if error.kind() == io::ErrorKind::OutOfMemory => Err(AllocError),
+        Err(_) => Ok(Vec::new(rt.alloc())),
+    }
+}
