@@ -1,7 +1,7 @@
 -- How what a run came to, and how it was printed, answer a call.
 use Rattle.std.proofs.Common.{◌≡◌, ◌⊎◌, inl, inr, ℕ, List, Option, Result, Ok, Err, OnOk, OnErr, MatchResult, length, take, sym, ap, subst, ◌∙◌, arith}
 use Rattle.std.proofs.lemmas.List.{take_all}
-use Rattle.std.specs.Io.KnownBytes.{Appends, Keeps, IsAtEnd}
+use Rattle.std.specs.Io.KnownBytes.{Appends, Keeps}
 use Rattle.std.proofs.KnownBytes.{Appends-kept}
 use Rattle.pb_pmem.specs.Count.{Rose, HasCause}
 use Rattle.pb_io.specs.declared.sink.SinkFault.{SinkFault}
@@ -11,7 +11,7 @@ use Rattle.pb_broker.specs.declared.status.TheConstants.{DONE, OUT_OF_MEMORY, US
 use Rattle.pb_broker.specs.declared.stop.Stop.{Stop}
 use Rattle.pb_broker.specs.declared.stop.Stop.TheVariants.{Memory, Usage, ReadFault, Long, Line, DeviceFault}
 use Rattle.pb_broker.specs.Run.{Ran, Stops, Printed, Prints, IsCommand}
-use Rattle.pb_broker.specs.Top.{Call, Output, Wrote, WroteSome, WroteNothing, IsSameDevice, SaysUsage, SaysRefusal, SaysRun, IsAnswered}
+use Rattle.pb_broker.specs.Top.{Call, Output, Wrote, WroteSome, WroteNothing, IsSameDevice, SaysUsage, SaysRefusal, SaysRun, IsScripted, IsAnswered}
 
 -- a text that was sent and then flushed, with its status
 pub printed_is : (before mid after : Option (List ℕ)) (text : List ℕ) (w0 w1 w2 whole status : ℕ) (written : Result (Unit {0}) SinkFault) → OnOk written (Appends before mid text) → OnErr written (AppendsSome before mid text) → HasCause w0 w1 written → Keeps mid after
@@ -138,17 +138,17 @@ module _ (call : Call) (output : Output) (status : ℕ) where
     device_stays = λ h. ap (λ device. device.faults) same;
   }
 
-  at_device_fault : status ≡ DEVICE_FAULT → IsCommand call → IsAtEnd call.left → WroteNothing output → output.writes ≡ output.writes_before → call.reads ≡ call.reads_before → Rose call.before.faults call.after.faults → IsAnswered call output status
-  at_device_fault e command end nothing writes reads rose = record {
+  at_device_fault : status ≡ DEVICE_FAULT → IsScripted call → WroteNothing output → output.writes ≡ output.writes_before → call.reads ≡ call.reads_before → Rose call.before.faults call.after.faults → IsAnswered call output status
+  at_device_fault e scripted nothing writes reads rose = record {
     range = omega arith;
     done = λ h. absurd (omega arith);
     out_of_memory = λ h. absurd (omega arith);
     usage = λ h. absurd (omega arith);
-    usage_exactly = λ h. absurd (h command.0 command.1);
+    usage_exactly = λ h. absurd (h scripted.size scripted.command);
     refused = λ h. absurd (omega arith);
     read_fault = λ h. absurd (omega arith);
     write_fault = λ h. absurd (omega arith);
-    device_fault = λ h. (end, nothing);
+    device_fault = λ h. (scripted, nothing);
     reads_rose = λ h. absurd (omega arith);
     reads_stay = λ h. reads;
     writes_rose = λ h. absurd (omega arith);
@@ -168,4 +168,4 @@ module _ (call : Call) (output : Output) (status : ℕ) where
   answered_by (Err Long) stops (inr fault) = at_fault fault.0 (inr (inl (record { size = stops.size; command = stops.command; cause = inl (stops.why, fault.1); device = stops.same }))) fault.2 stops.reads (ap (λ device. device.faults) stops.same)
   answered_by (Err (Line line)) stops (inl all) = at_refused all.0 (record { size = stops.size; command = stops.command; cause = inr (line, stops.why, all.1); device = stops.same }) all.2 stops.reads
   answered_by (Err (Line line)) stops (inr fault) = at_fault fault.0 (inr (inl (record { size = stops.size; command = stops.command; cause = inr (line, stops.why, fault.1); device = stops.same }))) fault.2 stops.reads (ap (λ device. device.faults) stops.same)
-  answered_by (Err DeviceFault) stops silent = at_device_fault silent.0 stops.0 stops.3 silent.1 silent.2 stops.2 stops.1
+  answered_by (Err DeviceFault) stops silent = at_device_fault silent.0 stops.0 silent.1 silent.2 stops.2 stops.1

@@ -8,7 +8,7 @@ use Rattle.pb_broker.specs.declared.stop.Stop.{Stop}
 use Rattle.pb_broker.specs.declared.stop.Stop.TheVariants.{Memory, Usage, ReadFault, Long, Line, DeviceFault}
 use Rattle.pb_broker.specs.History.{history_of, history_text}
 use Rattle.pb_broker.specs.Output.{usage_text, long_text, line_text}
-use Rattle.pb_broker.specs.Top.{Call, Output, Wrote, WroteSome, WroteNothing, IsUsage, IsLong, IsRefusedAt, IsSameDevice, IsRun}
+use Rattle.pb_broker.specs.Top.{Call, Output, Wrote, WroteSome, WroteNothing, IsUsage, IsLong, IsRefusedAt, IsSameDevice, IsRun, IsScripted}
 use Rattle.pb_broker.specs.Words.{IsFreshMap}
 
 -- the outcome lines of requests that were served
@@ -43,7 +43,7 @@ Stops call Usage = IsUsage call × IsSameDevice call × (call.reads ≡ call.rea
 Stops call ReadFault = IsCommand call × IsSameDevice call × Rose call.reads_before call.reads
 Stops call Long = Refused call (IsLong call)
 Stops call (Line line) = Refused call (IsRefusedAt call line)
-Stops call DeviceFault = IsCommand call × Rose call.before.faults call.after.faults × (call.reads ≡ call.reads_before) × IsAtEnd call.left
+Stops call DeviceFault = IsScripted call × Rose call.before.faults call.after.faults × (call.reads ≡ call.reads_before)
 
 -- a text was written whole, with this status; or a write failed behind some of it
 abbrev pub Printed : Output → List ℕ → ℕ → ℕ → Type 0

@@ -99,6 +99,14 @@ pub record SaysRun (call : Call) (Text : List ℕ → Type 0) : Type 0 where
   pub written : Text text
   pub end : IsAtEnd call.left
 
+-- the words are a command and the source is a script; nothing of it is left
+pub record IsScripted (call : Call) : Type 0 where
+  pub size : ℕ
+  pub asks : List Ask
+  pub command : IsFreshMap call.words size
+  pub script : IfSome call.source (λ bytes. (length bytes ≤ SOURCE_LIMIT) × IsScript bytes asks)
+  pub end : IsAtEnd call.left
+
 -- no request was applied: the device is as it was, or holds a fresh map
 abbrev pub IsUntouched : Call → Type 0
 IsUntouched call = IsSameDevice call ⊎ ((size : ℕ) × IsFreshMap call.words size × IfSome call.after.now (λ lines. Represents lines (fresh_map size)))
@@ -115,7 +123,8 @@ pub record IsAnswered (call : Call) (output : Output) (status : ℕ) : Type 0 wh
   pub read_fault : status ≡ READ_FAULT → IsSameDevice call × WroteNothing output
   -- what went out is a front of the text
   pub write_fault : status ≡ WRITE_FAULT → SaysUsage call (WroteSome output) ⊎ (SaysRefusal call (WroteSome output) ⊎ SaysRun call (WroteSome output))
-  pub device_fault : status ≡ DEVICE_FAULT → IsAtEnd call.left × WroteNothing output
+  -- lines are judged before the device is called
+  pub device_fault : status ≡ DEVICE_FAULT → IsScripted call × WroteNothing output
   -- a fault is answered exactly where its count rose
   pub reads_rose : status ≡ READ_FAULT → Rose call.reads_before call.reads
   pub reads_stay : status ≢ READ_FAULT → call.reads ≡ call.reads_before
