@@ -2,11 +2,15 @@ pub mod Again
 pub mod Checks
 pub mod Decided
 pub mod Keeping
+pub mod LegalHistories
 pub mod Lines
+pub mod LogHistories
 pub mod OneAnswer
 pub mod OneSided
 pub mod OneStanding
+pub mod Places
 pub mod Readers
+pub mod Readiness
 pub mod Records
 pub mod Replies
 pub mod Turn

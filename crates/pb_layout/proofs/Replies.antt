@@ -1,7 +1,7 @@
 -- The object's own replies are ones that a client's line may have.
-use Rattle.std.proofs.Common.{◌≡◌, ℕ, ◌<◌, List, Bool, true, false, cond, Option, Some, None, refl, arith, rules, Contains, nat_lt, length}
+use Rattle.std.proofs.Common.{◌≡◌, ℕ, List, Bool, true, false, cond, Option, Some, None, refl, arith, rules, Contains, nat_lt, length}
 use Rattle.std.specs.Option.{IsSomeAnd}
-use Rattle.pb_object.specs.declared.kind.Kind.TheVariants.{Map, Stack, Heap, Queue}
+use Rattle.pb_object.specs.declared.kind.Kind.TheVariants.{Map, Queue}
 use Rattle.pb_object.specs.declared.codes.Action.{Action}
 use Rattle.pb_object.specs.declared.codes.Action.TheVariants.{Get, Put, Cas, Push, Pop, Top, Insert, RemoveMin, Min, QueuePut, QueueTake}
 use Rattle.pb_object.specs.declared.codes.Answer.{Answer}

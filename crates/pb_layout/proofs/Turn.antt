@@ -1,5 +1,5 @@
 -- A region changes: outside the lines in use, and by a round.
-use Rattle.std.proofs.Common.{◌≡◌, ◌≢◌, ◌==◌, ℕ, ◌+◌, ◌%◌, ◌<◌, List, ◌++◌, length, get_or, set, take, drop, if◌then◌else◌, refl, sym, ap, ◌∙◌, subst, inl, inr, arith}
+use Rattle.std.proofs.Common.{◌≡◌, ◌≢◌, ℕ, ◌+◌, ◌%◌, ◌<◌, List, ◌++◌, length, get_or, set, take, drop, refl, sym, ap, ◌∙◌, subst, inl, inr, arith}
 use Rattle.std.proofs.lemmas.Bool.{cases_eq}
 use Rattle.std.proofs.lemmas.Bool.Decides.{nat_tests}
 use Rattle.std.proofs.lemmas.List.{ext_get_or, length-take, length-drop, length-set, get_or-set_same, get_or-set_other}
@@ -14,7 +14,7 @@ use Rattle.pb_layout.specs.ClientLine.{kept_in}
 use Rattle.pb_layout.specs.Header.{IsHeader, header_line_of, record_length}
 use Rattle.pb_layout.specs.Record.{count_line_of, client_line_at, IsRecord}
 use Rattle.pb_layout.specs.Region.{record_place, cell_place}
-use Rattle.pb_layout.specs.Represents.{header_for, record_in_use, record_of_side, object_part, object_parts_by, object_parts, last_kept_by, last_kept, later_kept, AreApart, HoldCells, Represents}
+use Rattle.pb_layout.specs.Represents.{header_for, record_in_use, record_of_side, object_part, object_parts_by, object_parts, last_kept_by, last_kept, later_kept, AreApart, HoldCells, records_with, Represents}
 use Rattle.pb_layout.specs.declared.header.Header.{Header}
 use Rattle.pb_pmem.proofs.Lines.{same_line}
 use Rattle.pb_layout.proofs.Records.{line_at-piece}
@@ -140,10 +140,6 @@ frame a b s same stands =
       apart = stands.apart;
       kept = stands.kept;
     })
-
--- the records in use where a side's has been exchanged for these lines
-abbrev pub records_with : List Line → Standing → ℕ → List Line → ℕ → List Line
-records_with image s side lines other = if other == side then lines else record_of_side image s other
 
 -- a round of a side: its spare record holds these lines, which stand with the rest for t, and the side's round number is one more
 pub record Turns (a b : List Line) (s t : Standing) (side : ℕ) (lines : List Line) : Type 0 where

@@ -1,8 +1,13 @@
 pub mod Cell
 pub mod ClientLine
+pub mod Covers
 pub mod Damage
 pub mod Header
 pub mod Laws
+pub mod LogHistory
+pub mod Once
+pub mod Ready
 pub mod Record
 pub mod Region
 pub mod Represents
+pub mod Told

@@ -1,5 +1,5 @@
 -- What a region stands for.
-use Rattle.std.specs.Prelude.{◌≡◌, ◌≢◌, ℕ, ◌+◌, ◌%◌, ◌<◌, List, ◌++◌, length, take, drop, slice_index, nat_lt, if◌then◌else◌}
+use Rattle.std.specs.Prelude.{◌≡◌, ◌≢◌, ℕ, ◌+◌, ◌%◌, ◌<◌, ◌==◌, List, ◌++◌, length, take, drop, slice_index, nat_lt, if◌then◌else◌}
 use Rattle.pb_pmem.specs.declared.line.Line.{Line}
 use Rattle.pb_pmem.specs.Lines.{line_at}
 use Rattle.pb_object.specs.declared.kind.Kind.{Kind}
@@ -78,6 +78,10 @@ HoldCells image head (Waits size queue) =
 -- a side's record in use, in a region that stands for s
 abbrev pub record_of_side : List Line → Standing → ℕ → List Line
 record_of_side image s side = record_in_use image (header_for s) side (rounds_of s side)
+
+-- the records in use, where a side's has been exchanged for these lines
+abbrev pub records_with : List Line → Standing → ℕ → List Line → ℕ → List Line
+records_with image s side lines other = if other == side then lines else record_of_side image s other
 
 -- the lines are a region that stands for s
 pub record Represents (image : List Line) (s : Standing) : Type 0 where

@@ -1,8 +1,18 @@
 //! What holds of all lines, and of what is written and read again. These functions are here for their contracts.
-ghost use Rattle.std.specs.Prelude.{◌≡◌, length, Some, Ok};
+ghost use Rattle.std.specs.Prelude.{◌≡◌, ℕ, ◌+◌, ◌≤◌, List, [], ◌∷◌, ◌++◌, All, length, Option, Some, Ok};
+ghost use Rattle.pb_pmem.specs.declared.line.Line.{Line};
+ghost use Rattle.pb_pmem.specs.declared.log.LogOp.{LogOp};
+ghost use Rattle.pb_pmem.specs.Contents.{contents};
+ghost use Rattle.pb_pmem.specs.Crash.{IsAtRest};
+ghost use Rattle.pb_object.specs.History.{History, IsLegal, state_after};
+ghost use Rattle.pb_object.specs.Standing.{Standing};
 ghost use Rattle.pb_layout.specs.ClientLine.{IsKept};
 ghost use Rattle.pb_layout.specs.Header.{IsHeader};
 ghost use Rattle.pb_layout.specs.Laws.{RepresentsOne, HasOneAnswer};
+ghost use Rattle.pb_layout.specs.LogHistory.{history_of};
+ghost use Rattle.pb_layout.specs.Once.{HasNumbersOnce, numbers_of};
+ghost use Rattle.pb_layout.specs.Ready.{StandsFor, IsAllowed, IsReady};
+ghost use Rattle.pb_layout.specs.Told.{TellsByPlaces};
 
 use crate::cells::{cell, cell_of};
 use crate::client::{client_line, client_of};
@@ -43,4 +53,38 @@ pub fn one_standing(image: &[Line])
 pub fn one_answer(image: &[Line])
     requires { length image.now ≡ LINES }
     ensures { HasOneAnswer image.now }
+{}
+
+/// The history of a log is the one that its places tell: a round for each index word that raises its side's round number.
+pub fn history_by_places()
+    ensures { (base : List Line) (log : List LogOp) (from : ℕ) → from ≤ length log → TellsByPlaces base log from (history_of base log from) }
+{}
+
+/// A device at rest is ready with what it stands for, alone.
+pub fn at_rest_is_ready()
+    ensures { (base : List Line) (log : List LogOp) (member : Option Standing)
+        → IsAtRest base log
+        → StandsFor (contents base log) member
+        → IsReady base log (member ∷ []) }
+{}
+
+/// Whatever may be done to a ready device leaves it as ready.
+pub fn ready_is_kept()
+    ensures { (base : List Line) (log more : List LogOp) (members : List (Option Standing))
+        → IsReady base log members
+        → All (IsAllowed members) more
+        → IsReady base (log ++ more) members }
+{}
+
+/// In a legal history no client's number stands twice.
+pub fn numbers_stand_once()
+    ensures { (s : Standing) (history : History) → length s.kept ≡ s.clients → IsLegal s history → HasNumbersOnce history }
+{}
+
+/// A legal history has at most as many rounds as the clients' numbers rose by.
+pub fn rounds_are_few()
+    ensures { (s : Standing) (history : History)
+        → length s.kept ≡ s.clients
+        → IsLegal s history
+        → length history + numbers_of s ≤ numbers_of (state_after s history) }
 {}

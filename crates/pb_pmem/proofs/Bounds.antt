@@ -1,6 +1,6 @@
 -- The rules for one more operation: what is then known of the images that a crash may leave.
 use Rattle.std.proofs.Common.{◌≡◌, ◌≢◌, ℕ, ◌⊎◌, Bool, true, false, not, ◌||◌, ◌&&◌, ◌==◌, List, [], ◌∷◌, Some, slice_index, ap, subst, sym, refl, ◌∙◌, inl, inr}
-use Rattle.std.proofs.lemmas.Bool.{false≢true}
+use Rattle.std.proofs.lemmas.Bool.{cases_Bool, false≢true}
 use Rattle.std.proofs.lemmas.Bool.Decides.{eqb_tells}
 use Rattle.std.proofs.Math.Path.{fun_ext}
 use Rattle.pb_pmem.specs.declared.line.Line.{Line}
@@ -122,7 +122,8 @@ Held-behind_mark base op past image which h line word =
     go (inr sync) (inr (other, inl written)) = absurd (subst (λ o. MayWrite line word (image line word) o) sync written)
     go which (inr (other, inr held)) = held
 
-Last-at_mark : (base : List Line) (op : LogOp) (past : List LogOp) (image : Words) → is_mark op ≡ true → AllLast base (op ∷ past) image → AllHeld base past image
+-- behind a mark the greatest cut allows what was held
+pub Last-at_mark : (base : List Line) (op : LogOp) (past : List LogOp) (image : Words) → is_mark op ≡ true → AllLast base (op ∷ past) image → AllHeld base past image
 Last-at_mark base op past image mark h line word =
     go (Last-cases base op past line word (image line word) (h line word))
   where
@@ -139,6 +140,21 @@ Leaves-behind_other base op past image other h = go (Leaves-cases base op past i
     go : ((is_sync op ≡ true) × AllHeld base past image) ⊎ ((is_sync op ≡ false) × (AllLast base (op ∷ past) image ⊎ Leaves base past image)) → AllLast base (op ∷ past) image ⊎ Leaves base past image
     go (inl (sync, held)) = absurd (false≢true (sym other ∙ sync))
     go (inr (o, h)) = h
+
+-- an image behind one more operation comes from one before, which differs only where the operation may have written
+pub Leaves-before : (base : List Line) (op : LogOp) (past : List LogOp) (image : Words) → Leaves base (op ∷ past) image → (before : Words) × Leaves base past before × DiffersBy op before image
+Leaves-before base op past image h = go (Leaves-cases base op past image h) (cases_Bool (is_mark op))
+  where
+    same : Leaves base past image → (before : Words) × Leaves base past before × DiffersBy op before image
+    same leaves = (image, leaves, (λ line word. inl refl))
+
+    go : ((is_sync op ≡ true) × AllHeld base past image) ⊎ ((is_sync op ≡ false) × (AllLast base (op ∷ past) image ⊎ Leaves base past image)) → (is_mark op ≡ true) ⊎ (is_mark op ≡ false) → (before : Words) × Leaves base past before × DiffersBy op before image
+    go (inl (sync, held)) mark = same (Leaves-Held base past image held)
+    go (inr (other, inr leaves)) mark = same leaves
+    go (inr (other, inl last)) (inl mark) = same (Leaves-Held base past image (Last-at_mark base op past image mark last))
+    go (inr (other, inl last)) (inr no_mark) =
+        let b = Last-before base op past image no_mark last in
+        (b.0, Leaves-Last base past b.0 b.1, b.2)
 
 -- a `Back` adds no image
 pub Leaves-behind_Back : (base : List Line) (first count : ℕ) (past : List LogOp) (image : Words) → Leaves base (Back first count ∷ past) image → Leaves base past image

@@ -1,20 +1,21 @@
 -- The laws of what a crash may leave.
-use Rattle.std.proofs.Common.{◌≡◌, ℕ, ◌↔◌, List, [], ◌∷◌, ◌++◌, Some, length, reverse, take, Any, ap, subst, sym, refl, ◌∙◌, inl, inr, arith}
-use Rattle.std.proofs.lemmas.List.{append-nil, reverse-reverse, reverse-append, take_all}
+use Rattle.std.proofs.Common.{◌≡◌, ℕ, suc, ◌⊎◌, ◌↔◌, true, false, List, [], ◌∷◌, ◌++◌, Some, length, reverse, take, Any, All, ap, subst, sym, refl, ◌∙◌, inl, inr, arith}
+use Rattle.std.proofs.lemmas.Bool.{cases_Bool}
+use Rattle.std.proofs.lemmas.List.{append-nil, append_assoc, reverse-reverse, reverse-append, take_all}
 use Rattle.pb_pmem.specs.declared.line.Line.{Line}
 use Rattle.pb_pmem.specs.declared.log.LogOp.{LogOp}
 use Rattle.pb_pmem.specs.declared.log.LogOp.TheVariants.{Back, Fence, Sync}
-use Rattle.pb_pmem.specs.Contents.{contents}
-use Rattle.pb_pmem.specs.Crash.{line_written, unbacked_writes, MayWrite, IsLeft, MayLeave, IsAtRest}
+use Rattle.pb_pmem.specs.Contents.{applied, contents}
+use Rattle.pb_pmem.specs.Crash.{is_mark, is_sync, line_written, unbacked_writes, MayWrite, IsLeft, MayLeave, IsAtRest}
 use Rattle.pb_pmem.specs.Lines.{word_of}
-use Rattle.pb_pmem.specs.Past.{now, Held, Leaves}
+use Rattle.pb_pmem.specs.Past.{Words, now, Held, Last, AllHeld, AllLast, Leaves}
 use Rattle.pb_pmem.proofs.Agree.{Leaves-IsLeft, IsLeft-Leaves}
 use Rattle.pb_pmem.proofs.Backed.{backed_past, unbacked_past, unbacked_writes-past, IsBackedOr, Held-backed}
-use Rattle.pb_pmem.proofs.Bounds.{Leaves-behind_Back, Leaves-behind_Fence, Leaves-behind_Sync}
-use Rattle.pb_pmem.proofs.Held.{Held-now, Last-at_none, Leaves-at_none, Leaves-now, Leaves-more, Leaves-Held, MayWrite-writes}
-use Rattle.pb_pmem.proofs.Lines.{length-contents, contents_push, contents-none}
+use Rattle.pb_pmem.proofs.Bounds.{Last-at_mark, Leaves-behind_Back, Leaves-behind_Fence, Leaves-behind_Sync}
+use Rattle.pb_pmem.proofs.Held.{Held-now, Last-cases, Last-at_none, Last-Held, Last-now, Leaves-cases, Leaves-at_none, Leaves-now, Leaves-more, Leaves-Held, Leaves-Last, MayWrite-writes}
+use Rattle.pb_pmem.proofs.Lines.{length-applied, length-contents, contents_push, contents-none}
 use Rattle.pb_pmem.proofs.Some.{Any-nil, Any-reverse, Any-weaker}
-use Rattle.pb_pmem.proofs.Words.{same_images}
+use Rattle.pb_pmem.proofs.Words.{same_images, word_of-applied}
 
 -- the contents may be left
 pub IsLeft-contents : (base : List Line) (log : List LogOp) → IsLeft base log (contents base log)
@@ -45,6 +46,61 @@ IsLeft-Back base log first count image = (
 pub IsLeft-Sync : (base : List Line) (log : List LogOp) (image : List Line) → IsLeft base (log ++ Sync ∷ []) image → IsLeft base log image
 IsLeft-Sync base log image h =
     IsLeft-Leaves base log image h.left.lines (Leaves-Held base (reverse log) (word_of image) (Leaves-behind_Sync base (reverse log) (word_of image) (Leaves_push base log Sync image h)))
+
+-- Operations that write what stands there already
+
+-- an operation that writes nothing but what stands in these lines
+abbrev pub WritesSame : List Line → LogOp → Type 0
+WritesSame lines op = (line word value : ℕ) → MayWrite line word value op → value ≡ word_of lines line word
+
+-- it changes no line
+pub applied-same : (op : LogOp) (lines : List Line) → WritesSame lines op → applied op lines ≡ lines
+applied-same op lines same =
+    same_images (applied op lines) lines (length-applied op lines) (λ line word. elim (word_of-applied op lines line word) [
+      | inl still ↦ still
+      | inr written ↦ same line word _ written
+    ])
+
+-- the device holds behind it what it held
+pub contents-same : (base : List Line) (log : List LogOp) (op : LogOp) → WritesSame (contents base log) op → contents base (log ++ op ∷ []) ≡ contents base log
+contents-same base log op same = contents_push base log op ∙ applied-same op (contents base log) same
+
+-- it adds no image
+pub Leaves-same : (base : List Line) (op : LogOp) (past : List LogOp) (image : Words) → WritesSame (now base past) op → Leaves base (op ∷ past) image → Leaves base past image
+Leaves-same base op past image same h = go (Leaves-cases base op past image h) (cases_Bool (is_mark op))
+  where
+    last : is_mark op ≡ false → AllLast base (op ∷ past) image → AllLast base past image
+    last other l line word = at (Last-cases base op past line word (image line word) (l line word))
+      where
+        at : ((is_mark op ≡ true) × Held base past line word (image line word)) ⊎ ((is_mark op ≡ false) × (MayWrite line word (image line word) op ⊎ Last base past line word (image line word))) → Last base past line word (image line word)
+        at (inl (mark, held)) = Last-Held base past line word (image line word) held
+        at (inr (o, inl written)) = subst (λ x. Last base past line word x) (sym (same line word (image line word) written)) (Last-now base past line word)
+        at (inr (o, inr l)) = l
+
+    go : ((is_sync op ≡ true) × AllHeld base past image) ⊎ ((is_sync op ≡ false) × (AllLast base (op ∷ past) image ⊎ Leaves base past image)) → (is_mark op ≡ true) ⊎ (is_mark op ≡ false) → Leaves base past image
+    go (inl (sync, held)) mark = Leaves-Held base past image held
+    go (inr (other, inr leaves)) mark = leaves
+    go (inr (other, inl l)) (inl mark) = Leaves-Held base past image (Last-at_mark base op past image mark l)
+    go (inr (other, inl l)) (inr no_mark) = Leaves-Last base past image (last no_mark l)
+
+-- nor does it in the public form
+pub IsLeft-same : (base : List Line) (log : List LogOp) (op : LogOp) (image : List Line) → WritesSame (contents base log) op → IsLeft base (log ++ op ∷ []) image → IsLeft base log image
+IsLeft-same base log op image same h =
+    IsLeft-Leaves base log image h.left.lines (Leaves-same base op (reverse log) (word_of image) (subst (λ l. WritesSame (contents base l) op) (sym (reverse-reverse log)) same) (Leaves_push base log op image h))
+
+-- a crash leaves these lines alone
+abbrev pub LeavesAlone : List Line → List LogOp → List Line → Type 0
+LeavesAlone base log lines = (image : List Line) → IsLeft base log image → image ≡ lines
+
+-- where a crash leaves what the device holds alone, it does so behind any operations that write what stands there
+pub LeavesAlone-same : (base : List Line) (log more : List LogOp) (lines : List Line) → contents base log ≡ lines → LeavesAlone base log lines → All (WritesSame lines) more → LeavesAlone base (log ++ more) lines
+LeavesAlone-same base log [] lines held alone same =
+    subst (λ l. LeavesAlone base l lines) (sym (append-nil log)) alone
+LeavesAlone-same base log (op ∷ more) lines held alone same =
+    subst (λ l. LeavesAlone base l lines) (append_assoc log (op ∷ []) more) (LeavesAlone-same base (log ++ op ∷ []) more lines (contents-same base log op first ∙ held) (λ image h. alone image (IsLeft-same base log op image first h)) (λ k d inside. same (suc k) d (omega arith)))
+  where
+    first : WritesSame (contents base log) op
+    first = subst (λ l. WritesSame l op) (sym held) (same 0 op (omega arith))
 
 -- The writes with no `Back` behind them
 

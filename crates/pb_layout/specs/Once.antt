@@ -1,0 +1,27 @@
+-- What holds of all legal histories.
+use Rattle.std.specs.Prelude.{◌≡◌, ℕ, List, [], ◌∷◌, ◌++◌, Some, slice_get, sum_by}
+use Rattle.pb_object.specs.declared.request.Kept.{Kept}
+use Rattle.pb_object.specs.History.{Entry, History}
+use Rattle.pb_object.specs.Standing.{Standing}
+
+-- all entries of a history, in their order
+unfoldable pub entries_of : History → List Entry
+entries_of [] = []
+entries_of (round ∷ history) = round.entries ++ entries_of history
+
+-- no two entries have the same client and number
+abbrev pub HasNumbersOnce : History → Type 0
+HasNumbersOnce history =
+    (a b : ℕ) (first second : Entry)
+    → slice_get (entries_of history) a ≡ Some first
+    → slice_get (entries_of history) b ≡ Some second
+    → first.client ≡ second.client
+    → first.number ≡ second.number
+    → a ≡ b
+
+-- the sum of the clients' last numbers
+abbrev pub number_of : Kept → ℕ
+number_of kept = kept.number
+
+abbrev pub numbers_of : Standing → ℕ
+numbers_of s = sum_by number_of s.kept
