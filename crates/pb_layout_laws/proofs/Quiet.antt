@@ -1,0 +1,167 @@
+-- Operations that make no region: they write neither the magic nor a round number, and no sync is among them.
+use Rattle.std.proofs.Common.{◌≡◌, ◌≢◌, ℕ, ◌+◌, ◌<◌, ◌≤◌, ◌⊎◌, Bool, true, false, ◌||◌, List, [], ◌∷◌, ◌++◌, reverse, Some, ap, subst, sym, refl, ◌∙◌, inl, inr, arith}
+use Rattle.std.specs.List.{All, list_any}
+use Rattle.std.proofs.lemmas.Bool.Decides.{nat_tests}
+use Rattle.std.proofs.lemmas.List.{append_assoc, append-nil, reverse-append, reverse-reverse}
+use Rattle.std.proofs.lemmas.List.Elements.{All-head, All-tail, All-nil, All-append, All-cons}
+use Rattle.pb_pmem.specs.declared.line.Line.{Line}
+use Rattle.pb_pmem.specs.declared.log.LogOp.{LogOp}
+use Rattle.pb_pmem.specs.declared.log.LogOp.TheVariants.{Whole, Word, Back, Fence, Sync}
+use Rattle.pb_pmem.specs.Contents.{applied, contents}
+use Rattle.pb_pmem.specs.Crash.{is_sync, is_back_of, line_written}
+use Rattle.pb_pmem.specs.Lines.{word_of}
+use Rattle.pb_pmem.specs.Past.{Words, DiffersBy, Bounds}
+use Rattle.pb_pmem.proofs.Bounds.{Bounds-write, Bounds-Back, Bounds-Fence, Bounds-Sync}
+use Rattle.pb_layout.specs.LogHistory.{LoggedRound, recorded_by_op, history_behind}
+use Rattle.pb_layout.specs.declared.header.TheConstants.{MAGIC}
+use Rattle.pb_layout.proofs.LogHistories.{history_behind-none, history_behind-first}
+use Rattle.pb_layout_laws.specs.Calls.{MayAdd, IsCutOff}
+
+-- One more operation of a log, in its order
+
+-- a write
+pub push_write : {base : List Line} {A T S : Words → Type 0} (log : List LogOp) (op : LogOp) (at : ℕ) (A' T' S' : Words → Type 0) → line_written op ≡ Some at → Bounds base (reverse log) A T S → ((before image : Words) → T before → DiffersBy op before image → T' image) → ((before image : Words) → S before → DiffersBy op before image → S' image) → ((image : Words) → A image → A' image) → ((image : Words) → T' image → A' image) → Bounds base (reverse (log ++ op ∷ [])) A' T' S'
+push_write {base} log op at A' T' S' written bounds last held old new =
+    subst (λ (l : List LogOp). Bounds base l A' T' S') (sym (reverse-append log (op ∷ []))) (Bounds-write op at A' T' S' written bounds last held old new)
+
+-- the lines that a `Back` gives are the contents
+abbrev pub HasGiven : ℕ → ℕ → List Line → Words → Type 0
+HasGiven first count lines image =
+    (line word : ℕ) → first ≤ line → line < first + count → image line word ≡ word_of lines line word
+
+-- a `Back`
+pub push_back : {base : List Line} {A T S : Words → Type 0} (log : List LogOp) (first count : ℕ) (S' : Words → Type 0) → Bounds base (reverse log) A T S → ((image : Words) → S image → HasGiven first count (contents base log) image → S' image) → Bounds base (reverse (log ++ Back first count ∷ [])) A T S'
+push_back {base} {A} {T} {S} log first count S' bounds given =
+    subst (λ (l : List LogOp). Bounds base l A T S') (sym (reverse-append log (Back first count ∷ []))) (Bounds-Back first count S' bounds (λ image held is. given image held (λ line word low high. is line word (within first count line low high) ∙ ap (λ (l : List LogOp). word_of (contents base l) line word) (reverse-reverse log))))
+  where
+    within : (first count line : ℕ) → first ≤ line → line < first + count → is_back_of line (Back first count) ≡ true
+    within first count line low high = grind (arith, nat_tests)
+
+-- a `Fence`
+pub push_fence : {base : List Line} {A T S : Words → Type 0} (log : List LogOp) → Bounds base (reverse log) A T S → Bounds base (reverse (log ++ Fence ∷ [])) A S S
+push_fence {base} {A} {T} {S} log bounds =
+    subst (λ (l : List LogOp). Bounds base l A S S) (sym (reverse-append log (Fence ∷ []))) (Bounds-Fence bounds)
+
+-- a `Sync`
+pub push_sync : {base : List Line} {A T S : Words → Type 0} (log : List LogOp) → Bounds base (reverse log) A T S → Bounds base (reverse (log ++ Sync ∷ [])) S S S
+push_sync {base} {A} {T} {S} log bounds =
+    subst (λ (l : List LogOp). Bounds base l S S S) (sym (reverse-append log (Sync ∷ []))) (Bounds-Sync bounds)
+
+-- Quiet operations
+
+-- an operation that is no sync, and writes whole lines but line 0, and of line 0 the words behind the first
+abbrev pub IsQuiet : LogOp → Type 0
+IsQuiet (Whole line to) = line ≢ 0
+IsQuiet (Word line word to) = (line ≡ 0) × (word ≢ 0)
+IsQuiet (Back first count) = Unit {0}
+IsQuiet Fence = Unit {0}
+IsQuiet Sync = ⊥
+
+-- the first word isn't the magic
+abbrev pub Bare : Words → Type 0
+Bare words = words 0 0 ≢ MAGIC
+
+quiet_op-records : (op : LogOp) (lines : List Line) → IsQuiet op → recorded_by_op op lines [] ≡ []
+quiet_op-records (Whole line to) lines quiet = refl
+quiet_op-records (Word line word to) lines quiet =
+    subst (λ (n : ℕ). recorded_by_op (Word n word to) lines [] ≡ []) (sym quiet.0) refl
+quiet_op-records (Back first count) lines quiet = refl
+quiet_op-records Fence lines quiet = refl
+quiet_op-records Sync lines quiet = refl
+
+-- such operations record no round
+pub quiet-records : (lines : List Line) (ops : List LogOp) → All IsQuiet ops → history_behind lines [] ops ≡ []
+quiet-records lines [] quiet = history_behind-none lines []
+quiet-records lines (op ∷ ops) quiet =
+    history_behind-first lines [] op ops ∙ (ap (λ (h : List LoggedRound). history_behind (applied op lines) h ops) (quiet_op-records op lines (All-head IsQuiet op ops quiet)) ∙ quiet-records (applied op lines) ops (All-tail IsQuiet op ops quiet))
+
+quiet_op-no_sync : (op : LogOp) → IsQuiet op → is_sync op ≡ false
+quiet_op-no_sync (Whole line to) quiet = refl
+quiet_op-no_sync (Word line word to) quiet = refl
+quiet_op-no_sync (Back first count) quiet = refl
+quiet_op-no_sync Fence quiet = refl
+quiet_op-no_sync Sync quiet = absurd quiet
+
+-- no sync is among them
+pub quiet-no_sync : (ops : List LogOp) → All IsQuiet ops → list_any is_sync ops ≡ false
+quiet-no_sync [] quiet = refl
+quiet-no_sync (op ∷ ops) quiet =
+    ap (λ (b : Bool). b || list_any is_sync ops) (quiet_op-no_sync op (All-head IsQuiet op ops quiet)) ∙ quiet-no_sync ops (All-tail IsQuiet op ops quiet)
+
+-- a quiet operation keeps the first word from being the magic
+keeps_bare : (op : LogOp) → IsQuiet op → (before image : Words) → Bare before → DiffersBy op before image → Bare image
+keeps_bare (Whole line to) quiet before image bare differs is =
+    elim (differs 0 0) [
+      | inl same ↦ bare (sym same ∙ is)
+      | inr written ↦ quiet written
+    ]
+keeps_bare (Word line word to) quiet before image bare differs is =
+    elim (differs 0 0) [
+      | inl same ↦ bare (sym same ∙ is)
+      | inr written ↦ quiet.1 written.1
+    ]
+keeps_bare (Back first count) quiet before image bare differs is =
+    elim (differs 0 0) [
+      | inl same ↦ bare (sym same ∙ is)
+      | inr written ↦ absurd written
+    ]
+keeps_bare Fence quiet before image bare differs is =
+    elim (differs 0 0) [
+      | inl same ↦ bare (sym same ∙ is)
+      | inr written ↦ absurd written
+    ]
+keeps_bare Sync quiet before image bare differs is = quiet
+
+quiet_op-bare : {base : List Line} (log : List LogOp) (op : LogOp) → IsQuiet op → Bounds base (reverse log) Bare Bare Bare → Bounds base (reverse (log ++ op ∷ [])) Bare Bare Bare
+quiet_op-bare log (Whole line to) quiet bounds =
+    push_write log (Whole line to) line Bare Bare Bare refl bounds (keeps_bare (Whole line to) quiet) (keeps_bare (Whole line to) quiet) (λ w b. b) (λ w b. b)
+quiet_op-bare log (Word line word to) quiet bounds =
+    push_write log (Word line word to) line Bare Bare Bare refl bounds (keeps_bare (Word line word to) quiet) (keeps_bare (Word line word to) quiet) (λ w b. b) (λ w b. b)
+quiet_op-bare log (Back first count) quiet bounds = push_back log first count Bare bounds (λ w b given. b)
+quiet_op-bare log Fence quiet bounds = push_fence log bounds
+quiet_op-bare log Sync quiet bounds = absurd quiet
+
+-- where no image had a region, none has one behind quiet operations
+pub quiet-bare : {base : List Line} (log ops : List LogOp) → All IsQuiet ops → Bounds base (reverse log) Bare Bare Bare → Bounds base (reverse (log ++ ops)) Bare Bare Bare
+quiet-bare {base} log [] quiet bounds =
+    subst (λ (l : List LogOp). Bounds base (reverse l) Bare Bare Bare) (sym (append-nil log)) bounds
+quiet-bare {base} log (op ∷ ops) quiet bounds =
+    subst (λ (l : List LogOp). Bounds base (reverse l) Bare Bare Bare) (append_assoc log (op ∷ []) ops) (quiet-bare (log ++ op ∷ []) ops (All-tail IsQuiet op ops quiet) (quiet_op-bare log op (All-head IsQuiet op ops quiet) bounds))
+
+-- what a call that fails adds for a quiet operation is quiet
+added-quiet : (op added : LogOp) → IsQuiet op → MayAdd op added → IsQuiet added
+added-quiet (Whole line to) (Whole at other) quiet may = λ e. quiet (sym may ∙ e)
+added-quiet (Whole line to) (Word at word other) quiet may = absurd may
+added-quiet (Whole line to) (Back first count) quiet may = absurd may
+added-quiet (Whole line to) Fence quiet may = absurd may
+added-quiet (Whole line to) Sync quiet may = absurd may
+added-quiet (Word line word to) added quiet may = subst IsQuiet (sym may) quiet
+added-quiet (Back first count) added quiet may = subst IsQuiet (sym may) tt
+added-quiet Fence added quiet may = subst IsQuiet (sym may) tt
+added-quiet Sync added quiet may = absurd quiet
+
+front_quiet : (front rest : List LogOp) → All IsQuiet (front ++ rest) → All IsQuiet front
+front_quiet [] rest quiet = All-nil IsQuiet
+front_quiet (op ∷ front) rest quiet =
+    All-cons IsQuiet op front (All-head IsQuiet op (front ++ rest) quiet) (front_quiet front rest (All-tail IsQuiet op (front ++ rest) quiet))
+
+rest_quiet : (front rest : List LogOp) → All IsQuiet (front ++ rest) → All IsQuiet rest
+rest_quiet [] rest quiet = quiet
+rest_quiet (op ∷ front) rest quiet = rest_quiet front rest (All-tail IsQuiet op (front ++ rest) quiet)
+
+-- quiet operations that are cut off are quiet
+pub cut_off-quiet : (all ops : List LogOp) → All IsQuiet all → IsCutOff all ops → All IsQuiet ops
+cut_off-quiet all ops quiet cut = go cut.added
+  where
+    parts : All IsQuiet (cut.front ++ cut.failed ∷ cut.rest)
+    parts = subst (All IsQuiet) cut.whole quiet
+
+    front : All IsQuiet cut.front
+    front = front_quiet cut.front (cut.failed ∷ cut.rest) parts
+
+    failed : IsQuiet cut.failed
+    failed = All-head IsQuiet cut.failed cut.rest (rest_quiet cut.front (cut.failed ∷ cut.rest) parts)
+
+    go : (ops ≡ cut.front) ⊎ ((op : LogOp) × MayAdd cut.failed op × (ops ≡ cut.front ++ op ∷ [])) → All IsQuiet ops
+    go (inl e) = subst (All IsQuiet) (sym e) front
+    go (inr (op, may, e)) = subst (All IsQuiet) (sym e) (All-append IsQuiet cut.front (op ∷ []) front (All-cons IsQuiet op [] (added-quiet cut.failed op failed may) (All-nil IsQuiet)))

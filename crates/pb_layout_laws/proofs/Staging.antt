@@ -1,0 +1,183 @@
+-- A store before its index word: the images stay what they were, and in the end the spare record is there.
+use Rattle.std.proofs.Common.{◌≡◌, ℕ, suc, ◌+◌, ◌-◌, ◌%◌, ◌<◌, ◌≤◌, ◌⊎◌, take, drop, List, [], ◌∷◌, ◌++◌, length, reverse, ap, subst, sym, refl, ◌∙◌, inl, inr, arith}
+use Rattle.std.specs.List.{All}
+use Rattle.std.proofs.lemmas.List.{append_assoc, take-append-drop}
+use Rattle.std.proofs.lemmas.List.Elements.{All-head, All-tail, All-nil, All-cons, All-append}
+use Rattle.pb_pmem.specs.declared.line.Line.{Line}
+use Rattle.pb_pmem.specs.declared.line.TheConstants.{LINES}
+use Rattle.pb_pmem.specs.declared.log.LogOp.{LogOp}
+use Rattle.pb_pmem.specs.declared.log.LogOp.TheVariants.{Whole, Word, Back, Fence, Sync}
+use Rattle.pb_pmem.specs.Contents.{applied}
+use Rattle.pb_pmem.specs.Lines.{line_at, word_of}
+use Rattle.pb_pmem.specs.Past.{Words, DiffersBy, Bounds}
+use Rattle.pb_pmem.proofs.Bounds.{Bounds-write, Bounds-Back, Bounds-Fence, Bounds-weaker}
+use Rattle.pb_pmem.proofs.Words.{reverse-cons}
+use Rattle.pb_object.specs.History.{Round, after_round}
+use Rattle.pb_object.specs.Object.{State, Registers, Items, Rising, Waits}
+use Rattle.pb_object.specs.ObjectLines.{kind_of}
+use Rattle.pb_object.specs.Standing.{Standing, side_count, rounds_of}
+use Rattle.pb_layout.specs.Header.{IsHeader, record_length}
+use Rattle.pb_layout.specs.declared.header.Header.{Header}
+use Rattle.pb_object.specs.declared.kind.Kind.{Kind}
+use Rattle.pb_object.specs.declared.kind.Kind.TheVariants.{Map, Stack, Heap, Queue}
+use Rattle.pb_layout_laws.proofs.Rounds.{after_entries-kind_of}
+use Rattle.pb_layout.specs.LogHistory.{recorded_by_op, history_behind}
+use Rattle.pb_layout.specs.Region.{cell_place}
+use Rattle.pb_layout.specs.Represents.{header_for, HoldCells, Represents}
+use Rattle.pb_layout.proofs.LogHistories.{history_behind-none, history_behind-first}
+use Rattle.pb_layout_laws.specs.Calls.{writes_from, staging, spare_place, MayAdd, IsCutOff}
+use Rattle.pb_layout_laws.specs.InUse.{IsInUse}
+use Rattle.pb_layout_laws.proofs.Entering.{Implies}
+use Rattle.pb_layout_laws.proofs.Frame.{represents_by_words}
+use Rattle.pb_layout_laws.proofs.Geometry.{spare_not_in_use, cell_below, record_behind_cells, parity-lt}
+use Rattle.pb_layout.proofs.OneAnswer.{record_fits}
+use Rattle.pb_layout_laws.proofs.Images.{image_of, length-image_of, word_of-image_of, line_at-image_of, line_in-same}
+use Rattle.pb_layout_laws.proofs.Writes.{writes_from-none, writes_from-more}
+
+-- operations that write nothing but lines of a piece, and don't wait
+abbrev pub IsIn : ℕ → ℕ → ℕ → Type 0
+IsIn first count line = (first ≤ line) × (line < first + count)
+
+abbrev pub IsQuiet : ℕ → ℕ → LogOp → Type 0
+IsQuiet first count (Whole line to) = IsIn first count line
+IsQuiet first count (Word line word to) = ⊥
+IsQuiet first count (Back at many) = Unit {0}
+IsQuiet first count Fence = Unit {0}
+IsQuiet first count Sync = ⊥
+
+pub quiet_writes : (first count at : ℕ) (lines : List Line) → first ≤ at → at + length lines ≤ first + count → All (IsQuiet first count) (writes_from at lines)
+quiet_writes first count at [] low high =
+    subst (λ (l : List LogOp). All (IsQuiet first count) l) (sym (writes_from-none at)) (All-nil (IsQuiet first count))
+quiet_writes first count at (line ∷ lines) low high =
+    subst (λ (l : List LogOp). All (IsQuiet first count) l) (sym (writes_from-more at line lines)) (All-cons (IsQuiet first count) (Whole at line) (writes_from (suc at) lines) (low, omega arith) (quiet_writes first count (suc at) lines (omega arith) (omega arith)))
+
+-- staging is quiet
+pub quiet_staging : (first : ℕ) (lines : List Line) → All (IsQuiet first (length lines)) (staging first lines)
+quiet_staging first lines =
+    All-append (IsQuiet first (length lines)) (writes_from first lines) (Back first (length lines) ∷ Fence ∷ []) (quiet_writes first (length lines) first lines (omega arith) (omega arith)) (All-cons (IsQuiet first (length lines)) (Back first (length lines)) (Fence ∷ []) tt (All-cons (IsQuiet first (length lines)) Fence [] tt (All-nil (IsQuiet first (length lines)))))
+
+quiet_added : (first count : ℕ) (failed op : LogOp) → IsQuiet first count failed → MayAdd failed op → IsQuiet first count op
+quiet_added first count (Whole line to) (Whole at other) quiet added = subst (λ (n : ℕ). IsIn first count n) (sym added) quiet
+quiet_added first count (Whole line to) (Word at word other) quiet added = absurd added
+quiet_added first count (Whole line to) (Back at many) quiet added = absurd added
+quiet_added first count (Whole line to) Fence quiet added = absurd added
+quiet_added first count (Whole line to) Sync quiet added = absurd added
+quiet_added first count (Word line word to) op quiet added = absurd quiet
+quiet_added first count (Back at many) op quiet added = subst (λ (o : LogOp). IsQuiet first count o) (sym added) quiet
+quiet_added first count Fence op quiet added = subst (λ (o : LogOp). IsQuiet first count o) (sym added) quiet
+quiet_added first count Sync op quiet added = absurd quiet
+
+-- and so is what is left of it where it is cut off
+All-front : {X : Type 0} (P : X → Type 0) (xs ys : List X) → All P (xs ++ ys) → All P xs
+All-front P [] ys all = All-nil P
+All-front P (x ∷ xs) ys all = All-cons P x xs (All-head P x (xs ++ ys) all) (All-front P xs ys (All-tail P x (xs ++ ys) all))
+
+All-back : {X : Type 0} (P : X → Type 0) (xs ys : List X) → All P (xs ++ ys) → All P ys
+All-back P [] ys all = all
+All-back P (x ∷ xs) ys all = All-back P xs ys (All-tail P x (xs ++ ys) all)
+
+pub All-take : {X : Type 0} (P : X → Type 0) (count : ℕ) (xs : List X) → All P xs → All P (take count xs)
+All-take P count xs all = All-front P (take count xs) (drop count xs) (subst (λ l. All P l) (sym (take-append-drop count xs)) all)
+
+pub quiet_cut_off : (first count : ℕ) (all ops : List LogOp) → All (IsQuiet first count) all → IsCutOff all ops → All (IsQuiet first count) ops
+quiet_cut_off first count all ops quiet cut =
+    let Q = IsQuiet first count in
+    let whole = subst (λ (l : List LogOp). All Q l) cut.whole quiet in
+    let front = All-front Q cut.front (cut.failed ∷ cut.rest) whole in
+    let failed = All-head Q cut.failed cut.rest (All-back Q cut.front (cut.failed ∷ cut.rest) whole) in
+    elim cut.added [
+      | inl same ↦ subst (λ (l : List LogOp). All Q l) (sym same) front
+      | inr more ↦ subst (λ (l : List LogOp). All Q l) (sym more.2) (All-append Q cut.front (more.0 ∷ []) front (All-cons Q more.0 [] (quiet_added first count cut.failed more.0 failed more.1) (All-nil Q)))
+    ]
+
+-- quiet operations record no round, and hold no sync
+pub quiet_history : (first count : ℕ) (lines : List Line) (ops : List LogOp) → All (IsQuiet first count) ops → history_behind lines [] ops ≡ []
+quiet_history first count lines [] quiet = history_behind-none lines []
+quiet_history first count lines (op ∷ ops) quiet =
+    history_behind-first lines [] op ops ∙ go op (All-head (IsQuiet first count) op ops quiet) (λ l. quiet_history first count l ops (All-tail (IsQuiet first count) op ops quiet))
+  where
+    go : (o : LogOp) → IsQuiet first count o → ((l : List Line) → history_behind l [] ops ≡ []) → history_behind (applied o lines) (recorded_by_op o lines []) ops ≡ []
+    go (Whole line to) q rest = rest (applied (Whole line to) lines)
+    go (Word line word to) q rest = absurd q
+    go (Back at many) q rest = rest lines
+    go Fence q rest = rest lines
+    go Sync q rest = absurd q
+
+-- a property of images that goes by lines outside a piece
+abbrev pub KeepsOutside : ℕ → ℕ → (Words → Type 0) → Type 0
+KeepsOutside first count P =
+    (before image : Words) → P before → ((line word : ℕ) → (image line word ≡ before line word) ⊎ IsIn first count line) → P image
+
+quiet_differs : (first count line : ℕ) (to : Line) (before image : Words) → IsIn first count line → DiffersBy (Whole line to) before image → (l word : ℕ) → (image l word ≡ before l word) ⊎ IsIn first count l
+quiet_differs first count line to before image inside differs l word =
+    elim (differs l word) [ inl same ↦ inl same | inr written ↦ inr (subst (λ (n : ℕ). IsIn first count n) written inside) ]
+
+quiet_op : {base : List Line} {past : List LogOp} (first count : ℕ) (A S : Words → Type 0) → Implies S A → KeepsOutside first count A → KeepsOutside first count S → (op : LogOp) → IsQuiet first count op → Bounds base past A A S → Bounds base (op ∷ past) A A S
+quiet_op first count A S inside keeps_all keeps_held (Whole line to) quiet bounds =
+    Bounds-write (Whole line to) line A A S refl bounds (λ before image a differs. keeps_all before image a (quiet_differs first count line to before image quiet differs)) (λ before image s differs. keeps_held before image s (quiet_differs first count line to before image quiet differs)) (λ image a. a) (λ image a. a)
+quiet_op first count A S inside keeps_all keeps_held (Word line word to) quiet bounds = absurd quiet
+quiet_op first count A S inside keeps_all keeps_held (Back at many) quiet bounds = Bounds-Back at many S bounds (λ image s given. s)
+quiet_op first count A S inside keeps_all keeps_held Fence quiet bounds = Bounds-weaker A A S (Bounds-Fence bounds) (λ image a. a) inside (λ image s. s)
+quiet_op first count A S inside keeps_all keeps_held Sync quiet bounds = absurd quiet
+
+-- quiet operations keep such properties
+pub quiet_bounds : {base : List Line} (past : List LogOp) (first count : ℕ) (A S : Words → Type 0) → Implies S A → KeepsOutside first count A → KeepsOutside first count S → (ops : List LogOp) → All (IsQuiet first count) ops → Bounds base past A A S → Bounds base (reverse ops ++ past) A A S
+quiet_bounds past first count A S inside keeps_all keeps_held [] quiet bounds = bounds
+quiet_bounds {base} past first count A S inside keeps_all keeps_held (op ∷ ops) quiet bounds =
+    subst (λ (l : List LogOp). Bounds base l A A S) (sym (ap (λ (l : List LogOp). l ++ past) (reverse-cons op ops) ∙ append_assoc (reverse ops) (op ∷ []) past)) (quiet_bounds (op ∷ past) first count A S inside keeps_all keeps_held ops (All-tail (IsQuiet first count) op ops quiet) (quiet_op first count A S inside keeps_all keeps_held op (All-head (IsQuiet first count) op ops quiet) bounds))
+
+-- What a store keeps while it stages
+
+-- an image that stands for s
+abbrev pub IsOld : List Line → Standing → Words → Type 0
+IsOld base s words = Represents (image_of (length base) words) s
+
+-- an image that has the cells of the next state
+abbrev pub HasNextCells : List Line → Standing → Round → Words → Type 0
+HasNextCells base s round words = HoldCells (image_of (length base) words) (header_for s) (after_round s round).state
+
+abbrev pub place_of : Standing → Round → ℕ
+place_of s round = spare_place (header_for s) round.side (rounds_of s round.side)
+
+-- writes to the spare record change no image's standing
+pub keeps_old : (base : List Line) (s : Standing) (round : Round) (count : ℕ) → count ≡ record_length (header_for s) → KeepsOutside (place_of s round) count (IsOld base s)
+keeps_old base s round count long before image stands differs =
+    represents_by_words (image_of (length base) before) (image_of (length base) image) s (length-image_of (length base) before ∙ sym (length-image_of (length base) image)) same stands
+  where
+    same : (line word : ℕ) → IsInUse s line → line < length (image_of (length base) before) → word < 8 → word_of (image_of (length base) before) line word ≡ word_of (image_of (length base) image) line word
+    same line word used inside few =
+        let fits : line < length base = omega (arith, length-image_of (length base) before) in
+        elim (differs line word) [
+          | inl e ↦ word_of-image_of (length base) before line word fits few ∙ (sym e ∙ sym (word_of-image_of (length base) image line word fits few))
+          | inr there ↦ absurd (spare_not_in_use s round.side (line - place_of s round) stands.valid stands.kind (omega (arith, there.0, there.1)) (subst (λ (n : ℕ). IsInUse s n) (omega (arith, there.0)) used))
+        ]
+
+-- and neither a cell
+line_kept : (base : List Line) (first count line : ℕ) (before image : Words) → line < first → line < length base → ((l word : ℕ) → (image l word ≡ before l word) ⊎ IsIn first count l) → line_at (image_of (length base) image) line ≡ line_at (image_of (length base) before) line
+line_kept base first count line before image low inside differs =
+    line_at-image_of (length base) image line inside ∙ (line_in-same image before line (λ word few. elim (differs line word) [ inl e ↦ e | inr there ↦ absurd (omega (arith, there.0)) ]) ∙ sym (line_at-image_of (length base) before line inside))
+
+cells_kept : (base : List Line) (head : Header) (first count : ℕ) (state : State) (before image : Words) → ((position : ℕ) → kind_of state ≡ Queue → (cell_place head position < first) × (cell_place head position < length base)) → ((l word : ℕ) → (image l word ≡ before l word) ⊎ IsIn first count l) → HoldCells (image_of (length base) before) head state → HoldCells (image_of (length base) image) head state
+cells_kept base head first count (Registers registers) before image low differs hold = tt
+cells_kept base head first count (Items size items) before image low differs hold = tt
+cells_kept base head first count (Rising size items) before image low differs hold = tt
+cells_kept base head first count (Waits size queue) before image low differs hold =
+    λ place inside. line_kept base first count (cell_place head (queue.taken + place)) before image (low (queue.taken + place) refl).0 (low (queue.taken + place) refl).1 differs ∙ hold place inside
+
+pub sides_few : (kind : Kind) (side : ℕ) → side < side_count kind → side < 2
+sides_few Map side here = omega arith
+sides_few Stack side here = omega arith
+sides_few Heap side here = omega arith
+sides_few Queue side here = omega arith
+
+pub keeps_cells : (base : List Line) (s : Standing) (round : Round) (count : ℕ) → length base ≡ LINES → IsHeader (header_for s) → kind_of s.state ≡ s.kind → round.side < side_count s.kind → KeepsOutside (place_of s round) count (HasNextCells base s round)
+keeps_cells base s round count long valid kind here before image hold differs =
+    cells_kept base (header_for s) (place_of s round) count (after_round s round).state before image low differs hold
+  where
+    low : (position : ℕ) → kind_of (after_round s round).state ≡ Queue → (cell_place (header_for s) position < place_of s round) × (cell_place (header_for s) position < length base)
+    low position queue =
+        let is_queue : s.kind ≡ Queue = sym kind ∙ (sym (after_entries-kind_of s round.entries) ∙ queue) in
+        let below = cell_below (header_for s) position valid is_queue in
+        let behind = record_behind_cells (header_for s) round.side ((rounds_of s round.side + 1) % 2) in
+        let fits = record_fits (header_for s) round.side ((rounds_of s round.side + 1) % 2) valid here (parity-lt (rounds_of s round.side + 1)) in
+        (omega arith, omega (arith, long))
