@@ -7,7 +7,7 @@ use Rattle.pb_object.specs.declared.kind.Kind.{Kind}
 use Rattle.pb_object.specs.declared.kind.Kind.TheVariants.{Queue}
 use Rattle.pb_object.specs.ObjectLines.{IsAllowedLine, IsFirstRefused}
 use Rattle.pb_object.specs.Standing.{side_count}
-use Rattle.pb_layout.specs.Damage.{Check, IsFirstNamed, IsFirstWithout, header_in, round_in, record_in, object_lines_in, record_place_in, client_place_in, object_place_by, IsRoundLine, taken_in, waiting_in, IsCellAt, region_checks}
+use Rattle.pb_layout.specs.Damage.{Check, AllPass, IsFirstNamed, IsFirstWithout, header_in, round_in, record_in, object_lines_in, record_place_in, client_place_in, object_place_by, IsRoundLine, taken_in, waiting_in, IsCellAt, region_checks}
 use Rattle.pb_layout.specs.Header.{IsHeaderLine, word}
 use Rattle.pb_layout.specs.Record.{count_line_of, IsClientLine, client_line_at, number_sum, IsRecord, HasBadClient, HasManyRounds, IsBadRecordAt}
 use Rattle.pb_layout.specs.Region.{cell_place}
@@ -26,10 +26,6 @@ pub record IsSharp (check : Check) : Type 0 where
 abbrev pub AllSharp : List Check → Type 0
 AllSharp [] = Unit {0}
 AllSharp (check ∷ checks) = IsSharp check × AllSharp checks
-
-abbrev pub AllPass : List Check → Type 0
-AllPass [] = Unit {0}
-AllPass (check ∷ checks) = check.passes × AllPass checks
 
 pub all_answer : (checks : List Check) → AllSharp checks → AllPass checks ⊎ ((line : ℕ) × IsFirstNamed checks line)
 all_answer [] sharp = inl tt

@@ -19,7 +19,7 @@ use Rattle.pb_object.specs.Request.{none_kept}
 use Rattle.pb_object.specs.Standing.{Standing, side_count, rounds_of}
 use Rattle.pb_layout.specs.Cell.{cell_line_of, IsCell}
 use Rattle.pb_layout.specs.ClientLine.{kept_in}
-use Rattle.pb_layout.specs.Damage.{HasRegion, header_in, round_in, record_in, object_lines_in, IsRoundLine, region_checks}
+use Rattle.pb_layout.specs.Damage.{AllPass, HasRegion, header_in, round_in, record_in, object_lines_in, IsRoundLine, region_checks}
 use Rattle.pb_layout.specs.Header.{IsHeader, record_length, word}
 use Rattle.pb_layout.specs.Laws.{HasOneAnswer}
 use Rattle.pb_layout.specs.Record.{count_line_of, client_line_at, IsRecord}
@@ -27,7 +27,7 @@ use Rattle.pb_layout.specs.Region.{record_place, cell_place}
 use Rattle.pb_layout.specs.Represents.{header_for, record_at, record_in_use, record_of_side, object_part, object_parts_by, object_parts, last_kept_by, last_kept, later_kept, AreApart, HoldCells, Represents}
 use Rattle.pb_layout.specs.declared.header.Header.{Header}
 use Rattle.pb_layout.specs.declared.header.TheConstants.{MAGIC}
-use Rattle.pb_layout.proofs.Checks.{AllPass, all_answer, all_sound, all_one, region_sharp}
+use Rattle.pb_layout.proofs.Checks.{all_answer, all_sound, all_one, region_sharp}
 use Rattle.pb_layout.proofs.Decided.{decided_eq}
 use Rattle.pb_layout.proofs.OneStanding.{few_sides}
 use Rattle.pb_layout.proofs.Readers.{named_by_line, named_of_header}

@@ -19,6 +19,11 @@ pub record Check : Type 1 where
   pub passes : Type 0
   pub refuses : ℕ → Type 0
 
+-- all of these checks are passed
+abbrev pub AllPass : List Check → Type 0
+AllPass [] = Unit {0}
+AllPass (check ∷ checks) = check.passes × AllPass checks
+
 -- the first check that isn't passed names this line
 abbrev pub IsFirstNamed : List Check → ℕ → Type 0
 IsFirstNamed [] line = ⊥

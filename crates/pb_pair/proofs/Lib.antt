@@ -1,0 +1,7 @@
+pub mod Formatted
+pub mod Formatting
+pub mod Front
+pub mod Opened
+pub mod Safe
+pub mod Steps
+pub mod Writes
