@@ -1,0 +1,142 @@
+//! Crashes at each moment of a log.
+use crate::found::{Found, read_image};
+use crate::rounds::{ToldRound, told_rounds};
+use crate::worked::{STATES, device, worked};
+use pb_image::Image;
+use pb_pmem::LogOp;
+use std::alloc::{AllocError, Global};
+use std::process::Abort;
+use std::test::Fail;
+
+const PICKS: [u64; 5] = [0, 1, 2, 7, 9];
+
+/// What the images stand for that a crash at a moment leaves: at each cut, those of some picks.
+pub fn found_at(
+    rt: &impl Abort,
+    alloc: Global,
+    image: &Image,
+    moment: u32,
+) -> Result<Vec<Found>, AllocError> {
+    assert!(rt; moment as usize <= image.log().len());
+    let (least, greatest) = image.cuts(moment);
+    let mut found = Vec::new(alloc);
+    for cut in least..=greatest {
+        for pick in PICKS {
+            let left = image.after_crash(alloc, moment, cut, pick, 0)?;
+            found.push(read_image(alloc, &left)?)?;
+        }
+    }
+    Ok(found)
+}
+
+/// What the images stand for that a crash behind all operations leaves.
+pub fn found_at_the_end(
+    rt: &impl Abort,
+    alloc: Global,
+    image: &Image,
+) -> Result<Vec<Found>, AllocError> {
+    assert!(rt; image.log().len() <= 64);
+    found_at(rt, alloc, image, image.log().len() as u32)
+}
+
+// The first `kept` rounds are rounds so far, and none of the others is sealed.
+fn is_front(rounds: &[ToldRound], moment: usize, kept: usize) -> bool {
+    for (place, round) in rounds.iter().enumerate() {
+        if place < kept {
+            if !round.is_there(moment) {
+                return false;
+            }
+        } else if round.is_sealed(moment) {
+            return false;
+        }
+    }
+    kept <= rounds.len()
+}
+
+// An image stands for the state behind a front of the rounds so far that lacks no sealed one.
+fn stands_for_a_front(rounds: &[ToldRound], moment: usize, found: &Found) -> bool {
+    for (kept, state) in STATES.iter().enumerate() {
+        if found == state && is_front(rounds, moment, kept) {
+            return true;
+        }
+    }
+    false
+}
+
+// There was no region at the start, no sync stands since, and there is none.
+fn is_still_nothing(rt: &impl Abort, log: &[LogOp], moment: usize, found: &Found) -> bool {
+    assert!(rt; moment <= log.len());
+    *found == Found::Nothing && !log.split_at(moment).0.contains(&LogOp::Sync)
+}
+
+/// The first moment at which a crash leaves an image that the rounds don't cover.
+pub fn first_uncovered(
+    rt: &impl Abort,
+    alloc: Global,
+    image: &Image,
+) -> Result<Option<u32>, AllocError> {
+    let log = image.log();
+    assert!(rt; log.len() <= 64);
+    let rounds = told_rounds(alloc, log)?;
+    for moment in 0..log.len() as u32 + 1 {
+        let at = moment as usize;
+        for found in found_at(rt, alloc, image, moment)?.iter() {
+            if !stands_for_a_front(&rounds, at, found) && !is_still_nothing(rt, log, at, found) {
+                return Ok(Some(moment));
+            }
+        }
+    }
+    Ok(None)
+}
+
+#[test]
+fn each_image_stands_for_a_front_of_the_rounds(rt: HostRuntime) -> Result<(), Fail> {
+    let alloc = rt.alloc();
+    let image = device(&rt, alloc, &worked(alloc)?)?;
+    assert_eq!(rt; first_uncovered(&rt, alloc, &image)?, None);
+    Ok(())
+}
+
+#[test]
+fn each_front_of_the_rounds_is_left_by_some_crash(rt: HostRuntime) -> Result<(), Fail> {
+    let alloc = rt.alloc();
+    let image = device(&rt, alloc, &worked(alloc)?)?;
+    let rounds = told_rounds(alloc, image.log())?;
+    for moment in 0..35 {
+        let found = found_at(&rt, alloc, &image, moment)?;
+        // Only the sync of the formatting, operation 18, takes the images without a region away.
+        assert_eq!(rt;
+            found.contains(&Found::Nothing),
+            moment < 18,
+            "moment {moment}"
+        );
+        for (kept, state) in STATES.iter().enumerate() {
+            // The magic is operation 16.
+            let left = moment >= 16 && is_front(&rounds, moment as usize, kept);
+            assert_eq!(rt;
+                found.contains(state),
+                left,
+                "moment {moment}, {kept} rounds"
+            );
+        }
+    }
+    Ok(())
+}
+
+#[test]
+fn the_device_holds_the_state_behind_all_rounds(rt: HostRuntime) -> Result<(), Fail> {
+    let alloc = rt.alloc();
+    let log = worked(alloc)?;
+    for moment in 0..35usize {
+        assert!(rt; moment <= log.len());
+        let log = log.split_at(moment).0;
+        let image = device(&rt, alloc, log)?;
+        let want = if moment < 16 {
+            Some(Found::Nothing)
+        } else {
+            STATES.get(told_rounds(alloc, log)?.len()).copied()
+        };
+        assert_eq!(rt; Some(read_image(alloc, &image)?), want, "moment {moment}");
+    }
+    Ok(())
+}

@@ -1,0 +1,16 @@
+//! What a crash may leave of one small region: each image is read as at an opening, and compared with the rounds that the log tells.
+//! The region and its log are those of the example in `docs/CRASH_MODEL.md`.
+#![tactic(auto)]
+
+#[cfg(test)]
+mod crash;
+#[cfg(test)]
+mod found;
+#[cfg(test)]
+mod orders;
+#[cfg(test)]
+mod ready;
+#[cfg(test)]
+mod rounds;
+#[cfg(test)]
+mod worked;

@@ -1,0 +1,123 @@
+//! Readiness: what a region may be found with, also behind what may be done to it before it is opened.
+use crate::crash::found_at_the_end;
+use crate::found::Found;
+use crate::worked::{STATES, back, device, word, worked};
+use pb_layout::MAGIC;
+use pb_pmem::LogOp;
+use std::alloc::Global;
+use std::process::Abort;
+use std::test::Fail;
+
+// The round number that settling may write for a member.
+fn settling_word(member: &Found) -> Option<LogOp> {
+    match *member {
+        Found::Nothing => None,
+        Found::Damaged => None,
+        Found::Region { round, .. } => Some(word(1, 0, round)),
+    }
+}
+
+// Number 0 is no operation, and 1 to 8 are among what may be done to a device with these members.
+fn allowed(number: u32, members: &[Found; 2]) -> Option<LogOp> {
+    match number {
+        1 => Some(back(1, 1)),
+        2 => Some(back(0, 3)),
+        3 => Some(LogOp::Fence),
+        4 => Some(LogOp::Sync),
+        5 => Some(word(0, 0, MAGIC)),
+        6 => settling_word(&members[0]),
+        7 => settling_word(&members[1]),
+        8 => Some(word(2, 0, 0)),
+        _ => None,
+    }
+}
+
+// What is found at the end behind the first operations of the worked log and more.
+fn found_behind(
+    rt: &impl Abort,
+    alloc: Global,
+    moment: usize,
+    more: [Option<LogOp>; 3],
+) -> Result<Vec<Found>, Fail> {
+    let mut ops = worked(alloc)?;
+    ops.truncate(moment);
+    for op in more {
+        if let Some(op) = op {
+            ops.push(op)?;
+        }
+    }
+    let image = device(rt, alloc, &ops)?;
+    Ok(found_at_the_end(rt, alloc, &image)?)
+}
+
+// Each image stands for a member, behind each of the first lists of allowed operations: the first 81 are those of at most two
+// operations, and the first 729 those of at most three.
+fn is_ready(
+    rt: &impl Abort,
+    alloc: Global,
+    moment: usize,
+    members: &[Found; 2],
+    lists: u32,
+) -> Result<bool, Fail> {
+    for list in 0..lists {
+        let more = [
+            allowed(list % 9, members),
+            allowed(list / 9 % 9, members),
+            allowed(list / 81 % 9, members),
+        ];
+        for found in found_behind(rt, alloc, moment, more)?.iter() {
+            if *found != members[0] && *found != members[1] {
+                return Ok(false);
+            }
+        }
+    }
+    Ok(true)
+}
+
+#[test]
+fn a_formatted_region_is_ready(rt: HostRuntime) -> Result<(), Fail> {
+    let alloc = rt.alloc();
+    let empty = [STATES[0], STATES[0]];
+    assert!(rt; is_ready(&rt, alloc, 18, &empty, 729)?);
+    Ok(())
+}
+
+#[test]
+fn readiness_names_what_may_be_found(rt: HostRuntime) -> Result<(), Fail> {
+    let alloc = rt.alloc();
+    let [empty, put, get] = STATES;
+    // Columns: the moment, the one or two members, and whether the device is ready for them.
+    for (moment, first, second, ready) in [
+        (14, Found::Nothing, empty, false),
+        (15, Found::Nothing, empty, true),
+        (17, Found::Nothing, empty, true),
+        (17, empty, empty, false),
+        (22, empty, empty, true),
+        (22, empty, put, false),
+        (23, empty, put, true),
+        (25, empty, put, true),
+        (25, empty, empty, false),
+        (26, put, put, true),
+        (30, put, put, true),
+        (30, put, get, false),
+        (31, put, get, true),
+        (33, put, get, true),
+        (33, get, get, false),
+        (34, get, get, true),
+    ] {
+        assert_eq!(rt;
+            is_ready(&rt, alloc, moment, &[first, second], 81)?,
+            ready,
+            "moment {moment}"
+        );
+    }
+    Ok(())
+}
+
+#[test]
+fn a_word_that_is_not_allowed_ends_readiness(rt: HostRuntime) -> Result<(), Fail> {
+    let alloc = rt.alloc();
+    let found = found_behind(&rt, alloc, 18, [Some(word(1, 0, 1)), None, None])?;
+    assert!(rt; found.contains(&Found::Damaged));
+    Ok(())
+}
