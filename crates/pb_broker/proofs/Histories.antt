@@ -5,7 +5,7 @@ use Rattle.pb_object.specs.declared.request.Ask.{Ask}
 use Rattle.pb_object.specs.declared.request.Reply.{Reply}
 use Rattle.pb_object.specs.History.{Round, History, after_round, state_after, IsLegalRound, IsLegal}
 use Rattle.pb_object.specs.Standing.{Standing}
-use Rattle.pb_broker.specs.History.{ServesEach, history_of}
+use Rattle.pb_broker.specs.History.{ServesEach, history_with}
 use Rattle.pb_broker.specs.Outcome.{alone, answered}
 use Rattle.pb_broker.specs.Script.{IsRequest, AreRequests}
 
@@ -19,42 +19,42 @@ pub IsLegal-push : (s : Standing) (history : History) (round : Round) → IsLega
 IsLegal-push s [] round legal one = (one, tt)
 IsLegal-push s (first ∷ history) round legal one = (legal.0, IsLegal-push (after_round s first) history round legal.1 one)
 
-pub history_of-nil : history_of [] [] ≡ []
-unfolding history_of
-history_of-nil = refl
+pub history_with-nil : history_with [] [] ≡ []
+unfolding history_with
+history_with-nil = refl
 
 -- requests one behind the other
-pub history_of-append : (asks more : List Ask) (replies rest : List Reply) → length asks ≡ length replies → history_of (asks ++ more) (replies ++ rest) ≡ history_of asks replies ++ history_of more rest
-unfolding history_of
-history_of-append [] more [] rest same = refl
-history_of-append [] more (r ∷ replies) rest same = absurd (omega arith)
-history_of-append (a ∷ asks) more [] rest same = absurd (omega arith)
-history_of-append (a ∷ asks) more (r ∷ replies) rest same = ap (λ history. alone (answered a r) ∷ history) (history_of-append asks more replies rest (omega arith))
+pub history_with-append : (asks more : List Ask) (replies rest : List Reply) → length asks ≡ length replies → history_with (asks ++ more) (replies ++ rest) ≡ history_with asks replies ++ history_with more rest
+unfolding history_with
+history_with-append [] more [] rest same = refl
+history_with-append [] more (r ∷ replies) rest same = absurd (omega arith)
+history_with-append (a ∷ asks) more [] rest same = absurd (omega arith)
+history_with-append (a ∷ asks) more (r ∷ replies) rest same = ap (λ history. alone (answered a r) ∷ history) (history_with-append asks more replies rest (omega arith))
 
-pub history_of-alone : (ask : Ask) (reply : Reply) → history_of (ask ∷ []) (reply ∷ []) ≡ alone (answered ask reply) ∷ []
-unfolding history_of
-history_of-alone ask reply = refl
+pub history_with-alone : (ask : Ask) (reply : Reply) → history_with (ask ∷ []) (reply ∷ []) ≡ alone (answered ask reply) ∷ []
+unfolding history_with
+history_with-alone ask reply = refl
 
-pub history_of-split : (asks : List Ask) (replies : List Reply) (place : ℕ) → length replies ≡ length asks → history_of asks replies ≡ history_of (take place asks) (take place replies) ++ history_of (drop place asks) (drop place replies)
-history_of-split asks replies place same =
-    ap (λ l. history_of l replies) (sym (take-append-drop place asks)) ∙ ap (history_of (take place asks ++ drop place asks)) (sym (take-append-drop place replies))
-    ∙ history_of-append (take place asks) (drop place asks) (take place replies) (drop place replies) (omega (arith, length-take place asks, length-take place replies))
+pub history_with-split : (asks : List Ask) (replies : List Reply) (place : ℕ) → length replies ≡ length asks → history_with asks replies ≡ history_with (take place asks) (take place replies) ++ history_with (drop place asks) (drop place replies)
+history_with-split asks replies place same =
+    ap (λ l. history_with l replies) (sym (take-append-drop place asks)) ∙ ap (history_with (take place asks ++ drop place asks)) (sym (take-append-drop place replies))
+    ∙ history_with-append (take place asks) (drop place asks) (take place replies) (drop place replies) (omega (arith, length-take place asks, length-take place replies))
 
-pub history_of-more : (asks : List Ask) (replies : List Reply) (place : ℕ) (a : Ask) (r : Reply) → place < length asks → length replies ≡ length asks
-    → history_of (take (place + 1) asks) (take (place + 1) replies) ≡ history_of (take place asks) (take place replies) ++ alone (answered (get_or asks place a) (get_or replies place r)) ∷ []
-history_of-more asks replies place a r below same =
-    ap (λ l. history_of l (take (place + 1) replies)) (take_more asks place a below)
-    ∙ ap (history_of (take place asks ++ get_or asks place a ∷ [])) (take_more replies place r (omega arith))
-    ∙ history_of-append (take place asks) (get_or asks place a ∷ []) (take place replies) (get_or replies place r ∷ []) (omega (arith, length-take place asks, length-take place replies))
-    ∙ ap (λ l. history_of (take place asks) (take place replies) ++ l) (history_of-alone (get_or asks place a) (get_or replies place r))
+pub history_with-more : (asks : List Ask) (replies : List Reply) (place : ℕ) (a : Ask) (r : Reply) → place < length asks → length replies ≡ length asks
+    → history_with (take (place + 1) asks) (take (place + 1) replies) ≡ history_with (take place asks) (take place replies) ++ alone (answered (get_or asks place a) (get_or replies place r)) ∷ []
+history_with-more asks replies place a r below same =
+    ap (λ l. history_with l (take (place + 1) replies)) (take_more asks place a below)
+    ∙ ap (history_with (take place asks ++ get_or asks place a ∷ [])) (take_more replies place r (omega arith))
+    ∙ history_with-append (take place asks) (get_or asks place a ∷ []) (take place replies) (get_or replies place r ∷ []) (omega (arith, length-take place asks, length-take place replies))
+    ∙ ap (λ l. history_with (take place asks) (take place replies) ++ l) (history_with-alone (get_or asks place a) (get_or replies place r))
 
 -- one more request was answered, and its reply written to its place
 pub history_more : (asks : List Ask) (replies : List Reply) (place : ℕ) (d : Ask) (reply : Reply) → place < length asks → length replies ≡ length asks
-    → history_of (take (place + 1) asks) (take (place + 1) (set replies place reply)) ≡ history_of (take place asks) (take place replies) ++ alone (answered (get_or asks place d) reply) ∷ []
+    → history_with (take (place + 1) asks) (take (place + 1) (set replies place reply)) ≡ history_with (take place asks) (take place replies) ++ alone (answered (get_or asks place d) reply) ∷ []
 history_more asks replies place d reply below same =
-    history_of-more asks (set replies place reply) place d reply below (length-set replies place reply ∙ same)
-    ∙ ap (λ l. history_of (take place asks) l ++ alone (answered (get_or asks place d) (get_or (set replies place reply) place reply)) ∷ []) (take-set replies place reply)
-    ∙ ap (λ r. history_of (take place asks) (take place replies) ++ alone (answered (get_or asks place d) r) ∷ []) (get_or-set_same replies place reply reply (omega arith))
+    history_with-more asks (set replies place reply) place d reply below (length-set replies place reply ∙ same)
+    ∙ ap (λ l. history_with (take place asks) l ++ alone (answered (get_or asks place d) (get_or (set replies place reply) place reply)) ∷ []) (take-set replies place reply)
+    ∙ ap (λ r. history_with (take place asks) (take place replies) ++ alone (answered (get_or asks place d) r) ∷ []) (get_or-set_same replies place reply reply (omega arith))
 
 -- the requests of a script by their places
 pub AreRequests-at : (number : ℕ) (asks : List Ask) (place : ℕ) (d : Ask) → AreRequests number asks → place < length asks → IsRequest (number + place) (get_or asks place d)
@@ -70,8 +70,15 @@ AreRequests-at number (ask ∷ asks) (suc place) d h below =
     shift n k = omega arith
 
 -- each request has its round
-pub ServesEach-history : (asks : List Ask) (replies : List Reply) → length replies ≡ length asks → ServesEach asks (history_of asks replies)
-unfolding history_of
+pub ServesEach-history : (asks : List Ask) (replies : List Reply) → length replies ≡ length asks → ServesEach asks (history_with asks replies)
+unfolding history_with
 ServesEach-history [] replies same = tt
 ServesEach-history (ask ∷ asks) [] same = absurd (omega arith)
 ServesEach-history (ask ∷ asks) (reply ∷ replies) same = ((reply, refl), ServesEach-history asks replies (omega arith))
+
+-- requests one behind the other have their rounds one behind the other
+pub ServesEach-append : (asks more : List Ask) (history rest : History) → ServesEach asks history → ServesEach more rest → ServesEach (asks ++ more) (history ++ rest)
+ServesEach-append [] more [] rest left right = right
+ServesEach-append [] more (round ∷ history) rest left right = absurd left
+ServesEach-append (ask ∷ asks) more [] rest left right = absurd left
+ServesEach-append (ask ∷ asks) more (round ∷ history) rest left right = (left.0, ServesEach-append asks more history rest left.1 right)

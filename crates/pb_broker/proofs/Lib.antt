@@ -1,4 +1,6 @@
+mod Behind
 mod Bytes
+mod FormattedRegion
 mod Histories
 mod LastPut
 mod Lists
@@ -7,8 +9,9 @@ mod Operations
 mod PieceLemmas
 mod Plain
 mod PlainLines
+mod RegionRecords
 mod RunLemmas
-mod Served
-mod Stored
+mod ServeLemmas
+mod ServedRegion
+mod ToldLines
 mod TopLemmas
-mod WrittenLines

@@ -8,10 +8,10 @@ use Rattle.pb_object.specs.declared.request.Ask.{Ask}
 use Rattle.pb_object.specs.declared.request.Reply.{Reply}
 use Rattle.pb_object.specs.History.{History}
 use Rattle.pb_io.specs.SinkBytes.{AppendsSome}
-use Rattle.pb_broker.specs.History.{history_of, history_text}
+use Rattle.pb_broker.specs.History.{history_with, history_text}
 use Rattle.pb_broker.specs.Outcome.{alone, answered, entry_line, entries_text}
 use Rattle.pb_broker.specs.Pieces.{Passes}
-use Rattle.pb_broker.proofs.Histories.{history_of-more, history_of-split}
+use Rattle.pb_broker.proofs.Histories.{history_with-more, history_with-split}
 
 -- nothing was written yet
 pub passes_none : (known : Option (List ℕ)) → Passes known known [] [] []
@@ -59,11 +59,11 @@ history_text-alone ask reply = append-nil _ ∙ append-nil _
 
 -- the text so far, and one more request that was answered
 pub history_text-more : (asks : List Ask) (replies : List Reply) (place : ℕ) (a : Ask) (r : Reply) → place < length asks → length replies ≡ length asks
-    → history_text (history_of (take (place + 1) asks) (take (place + 1) replies)) ≡ history_text (history_of (take place asks) (take place replies)) ++ entry_line (answered (get_or asks place a) (get_or replies place r))
+    → history_text (history_with (take (place + 1) asks) (take (place + 1) replies)) ≡ history_text (history_with (take place asks) (take place replies)) ++ entry_line (answered (get_or asks place a) (get_or replies place r))
 history_text-more asks replies place a r below same =
-    ap history_text (history_of-more asks replies place a r below same) ∙ history_text-append _ _ ∙ ap (λ l. history_text (history_of (take place asks) (take place replies)) ++ l) (history_text-alone (get_or asks place a) (get_or replies place r))
+    ap history_text (history_with-more asks replies place a r below same) ∙ history_text-append _ _ ∙ ap (λ l. history_text (history_with (take place asks) (take place replies)) ++ l) (history_text-alone (get_or asks place a) (get_or replies place r))
 
 -- the text so far is the front of the whole
 pub history_text-split : (asks : List Ask) (replies : List Reply) (place : ℕ) → length replies ≡ length asks
-    → history_text (history_of asks replies) ≡ history_text (history_of (take place asks) (take place replies)) ++ history_text (history_of (drop place asks) (drop place replies))
-history_text-split asks replies place same = ap history_text (history_of-split asks replies place same) ∙ history_text-append _ _
+    → history_text (history_with asks replies) ≡ history_text (history_with (take place asks) (take place replies)) ++ history_text (history_with (drop place asks) (drop place replies))
+history_text-split asks replies place same = ap history_text (history_with-split asks replies place same) ∙ history_text-append _ _

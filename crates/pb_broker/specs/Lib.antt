@@ -6,7 +6,7 @@ pub mod Pieces
 pub mod Region
 pub mod Run
 pub mod Script
+pub mod Serving
 pub mod Source
 pub mod Top
 pub mod Words
-pub mod Writes

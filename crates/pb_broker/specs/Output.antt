@@ -7,6 +7,9 @@ usage_text = codes "usage\n"
 abbrev pub long_text : List ℕ
 long_text = codes "long\n"
 
+abbrev pub taken_text : List ℕ
+taken_text = codes "taken\n"
+
 -- as `line 3` with its line feed
 abbrev pub line_text : ℕ → List ℕ
 line_text line = codes "line " ++ (decimal line ++ codes "\n")

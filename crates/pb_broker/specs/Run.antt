@@ -1,49 +1,128 @@
 -- What a run comes to before anything is printed, and how that is printed.
-use Rattle.std.specs.Prelude.{◌≡◌, ◌⊎◌, ℕ, List, Result, Ok, Err}
-use Rattle.std.specs.Io.KnownBytes.{IsAtEnd, Keeps}
+use Rattle.std.specs.Prelude.{◌≡◌, ◌⊎◌, ℕ, ◌≤◌, List, [], ◌∷◌, None, IfSome, Result, Ok, Err, length}
+use Rattle.std.specs.Io.KnownBytes.{Keeps}
 use Rattle.pb_pmem.specs.Count.{Rose}
-use Rattle.pb_broker.specs.declared.run.Served.{Served}
-use Rattle.pb_broker.specs.declared.status.TheConstants.{DONE, OUT_OF_MEMORY, USAGE, REFUSED, READ_FAULT, WRITE_FAULT, DEVICE_FAULT}
+use Rattle.pb_pmem.specs.Device.{Device, Tale}
+use Rattle.pb_object.specs.declared.request.Ask.{Ask}
+use Rattle.pb_object.specs.declared.request.Reply.{Reply}
+use Rattle.pb_object.specs.declared.request.TheConstants.{LAST_NUMBER}
+use Rattle.pb_object.specs.History.{IsLegal, state_after}
+use Rattle.pb_layout.specs.Damage.{HasRegion}
+use Rattle.pb_pair.specs.declared.why.Why.{Why}
+use Rattle.pb_pair.specs.declared.why.Why.TheVariants.{Memory as MemoryWhy, Device as DeviceWhy, Taken as TakenWhy, NoRegion, Damaged}
+use Rattle.pb_pair.specs.Safe.{held, IsReadyWith}
+use Rattle.pb_broker.specs.declared.requests.Requests.{Requests}
+use Rattle.pb_broker.specs.declared.status.TheConstants.{DONE, OUT_OF_MEMORY, USAGE, REFUSED, READ_FAULT, WRITE_FAULT, DEVICE_FAULT, TAKEN}
 use Rattle.pb_broker.specs.declared.stop.Stop.{Stop}
-use Rattle.pb_broker.specs.declared.stop.Stop.TheVariants.{Memory, Usage, ReadFault, Long, Line, DeviceFault}
-use Rattle.pb_broker.specs.History.{history_of, history_text}
-use Rattle.pb_broker.specs.Output.{usage_text, long_text, line_text}
-use Rattle.pb_broker.specs.Top.{Call, Output, Wrote, WroteSome, WroteNothing, IsUsage, IsLong, IsRefusedAt, IsSameDevice, IsRun, IsScripted}
+use Rattle.pb_broker.specs.declared.stop.Stop.TheVariants.{Memory, Usage, ReadFault, Long, Line, DeviceFault, Taken}
+use Rattle.pb_broker.specs.History.{history_with, history_text}
+use Rattle.pb_broker.specs.Output.{usage_text, long_text, line_text, taken_text}
+use Rattle.pb_broker.specs.Script.{AreRequests}
+use Rattle.pb_broker.specs.Serving.{fresh_map, Holds, WhereReadyWith, IsSealedBehind, IsStoppedBehind}
+use Rattle.pb_broker.specs.Top.{Reading, Call, Output, Wrote, WroteSome, WroteNothing, IsUsage, IsLong, IsRefusedAt, IsSameDevice, IsScripted}
 use Rattle.pb_broker.specs.Words.{IsFreshMap}
 
--- the outcome lines of requests that were served
-abbrev pub served_text : Served → List ℕ
-served_text served = history_text (history_of served.asks.items served.replies.items)
-
--- the words are a command, and the script was served
-pub record Ran (call : Call) (served : Served) : Type 0 where
-  pub size : ℕ
-  pub command : IsFreshMap call.words size
-  pub run : IsRun size call.source (served_text served) call.after.now
-  pub end : IsAtEnd call.left
-  pub reads : call.reads ≡ call.reads_before
-  pub faults : call.after.faults ≡ call.before.faults
-
--- the words are a command, and this holds; the device is as it was, and no read failed
-pub record Refused (call : Call) (Why : Type 0) : Type 0 where
-  pub size : ℕ
-  pub command : IsFreshMap call.words size
-  pub why : Why
-  pub reads : call.reads ≡ call.reads_before
-  pub same : IsSameDevice call
+-- Before the device is called
 
 -- the words are a command
-abbrev pub IsCommand : Call → Type 0
-IsCommand call = (size : ℕ) × IsFreshMap call.words size
+abbrev pub IsCommand : Reading → Type 0
+IsCommand read = (size : ℕ) × IsFreshMap read.words size
+
+-- the words are a command, the source is a script, and there is a place for each reply
+pub record HasPrepared (read : Reading) (script : Requests) : Type 0 where
+  pub scripted : IsScripted read script.size script.asks.items
+  pub requests : AreRequests 1 script.asks.items
+  pub few : length script.asks.items ≤ LAST_NUMBER
+  pub reads : read.faults ≡ read.faults_before
+
+-- the words are a command, this is wrong with the source, and no read failed
+pub record IsWrong (read : Reading) (Why : Type 0) : Type 0 where
+  pub size : ℕ
+  pub command : IsFreshMap read.words size
+  pub why : Why
+  pub reads : read.faults ≡ read.faults_before
+
+-- why a run stops before it calls the device
+abbrev pub StopsBefore : Reading → Stop → Type 0
+StopsBefore read Memory = IsCommand read × (read.faults ≡ read.faults_before)
+StopsBefore read Usage = IsUsage read × (read.faults ≡ read.faults_before) × Keeps read.source read.left
+StopsBefore read ReadFault = IsCommand read × Rose read.faults_before read.faults
+StopsBefore read Long = IsWrong read (IsLong read)
+StopsBefore read (Line line) = IsWrong read (IsRefusedAt read line)
+StopsBefore read DeviceFault = ⊥
+StopsBefore read Taken = ⊥
+
+-- On the device
+
+-- the requests of a script were served with these replies, on a device that had no region
+pub record IsRunOf (size : ℕ) (asks : List Ask) (replies : List Reply) (before after : Device) : Type 0 where
+  pub places : length replies ≡ length asks
+  pub legal : IsLegal (fresh_map size) (history_with asks replies)
+  pub faults : after.faults ≡ before.faults
+  pub no_region : IfSome before.now (λ lines. ¬ HasRegion lines)
+  pub holds : Holds (state_after (fresh_map size) (history_with asks replies)) after
+  pub safe : WhereReadyWith (None ∷ []) before (λ tale. IsSealedBehind tale after (fresh_map size) (history_with asks replies))
+
+-- the script is as it was, with its replies
+pub record HasRun (script : Requests) (before after : Device) (served : Requests) : Type 0 where
+  pub size_is : served.size ≡ script.size
+  pub asks_are : served.asks.items ≡ script.asks.items
+  pub run : IsRunOf script.size script.asks.items served.replies.items before after
+
+-- a call of the device failed; where the device then holds no region, it is ready with none alone
+pub record IsStopped (tale : Tale) (after : Device) (size : ℕ) (asks : List Ask) : Type 0 where
+  pub behind : IsStoppedBehind tale after (fresh_map size) asks
+  pub nothing : IfSome after.told (λ end. ¬ HasRegion (held end) → IsReadyWith (None ∷ []) end)
+
+-- why a run stops on the device, and what stands then
+abbrev pub StopsRun : Requests → Device → Device → Stop → Type 0
+StopsRun script before after Memory = after ≡ before
+StopsRun script before after DeviceFault = Rose before.faults after.faults × WhereReadyWith (None ∷ []) before (λ tale. IsStopped tale after script.size script.asks.items)
+StopsRun script before after Taken = (after ≡ before) × IfSome before.now HasRegion
+StopsRun script before after Usage = ⊥
+StopsRun script before after ReadFault = ⊥
+StopsRun script before after Long = ⊥
+StopsRun script before after (Line line) = ⊥
+
+-- what an unformatted device comes to: of these, formatting refuses for want of memory, by a fault, or where there is a region
+abbrev pub stop_for : Why → Stop
+stop_for MemoryWhy = Memory
+stop_for (DeviceWhy fault) = DeviceFault
+stop_for TakenWhy = Taken
+stop_for NoRegion = Memory
+stop_for (Damaged line) = Memory
+
+-- The whole run
+
+-- the words are a command, and the script was served
+pub record Ran (call : Call) (served : Requests) : Type 0 where
+  pub scripted : IsScripted call.read served.size served.asks.items
+  pub run : IsRunOf served.size served.asks.items served.replies.items call.before call.after
+  pub reads : call.read.faults ≡ call.read.faults_before
+
+-- the script was refused by the device
+pub record IsHeldUp (call : Call) (How : ℕ → List Ask → Type 0) : Type 0 where
+  pub size : ℕ
+  pub asks : List Ask
+  pub scripted : IsScripted call.read size asks
+  pub how : How size asks
+  pub reads : call.read.faults ≡ call.read.faults_before
 
 -- why a run stops, and what stands then
 abbrev pub Stops : Call → Stop → Type 0
-Stops call Memory = IsCommand call × IsSameDevice call × (call.reads ≡ call.reads_before)
-Stops call Usage = IsUsage call × IsSameDevice call × (call.reads ≡ call.reads_before) × Keeps call.source call.left
-Stops call ReadFault = IsCommand call × IsSameDevice call × Rose call.reads_before call.reads
-Stops call Long = Refused call (IsLong call)
-Stops call (Line line) = Refused call (IsRefusedAt call line)
-Stops call DeviceFault = IsScripted call × Rose call.before.faults call.after.faults × (call.reads ≡ call.reads_before)
+Stops call Memory = IsCommand call.read × IsSameDevice call × (call.read.faults ≡ call.read.faults_before)
+Stops call Usage = StopsBefore call.read Usage × IsSameDevice call
+Stops call ReadFault = StopsBefore call.read ReadFault × IsSameDevice call
+Stops call Long = StopsBefore call.read Long × IsSameDevice call
+Stops call (Line line) = StopsBefore call.read (Line line) × IsSameDevice call
+Stops call DeviceFault = IsHeldUp call (λ size asks. Rose call.before.faults call.after.faults × WhereReadyWith (None ∷ []) call.before (λ tale. IsStopped tale call.after size asks))
+Stops call Taken = IsHeldUp call (λ size asks. IsSameDevice call × IfSome call.before.now HasRegion)
+
+-- Printing
+
+-- the outcome lines of requests that were served
+abbrev pub served_text : Requests → List ℕ
+served_text served = history_text (history_with served.asks.items served.replies.items)
 
 -- a text was written whole, with this status; or a write failed behind some of it
 abbrev pub Printed : Output → List ℕ → ℕ → ℕ → Type 0
@@ -56,7 +135,7 @@ abbrev pub Silent : Output → ℕ → ℕ → Type 0
 Silent output only status = (status ≡ only) × WroteNothing output × (output.writes ≡ output.writes_before)
 
 -- how an outcome is printed
-abbrev pub Prints : Output → Result Served Stop → ℕ → Type 0
+abbrev pub Prints : Output → Result Requests Stop → ℕ → Type 0
 Prints output (Ok served) status = Printed output (served_text served) DONE status
 Prints output (Err Memory) status = Silent output OUT_OF_MEMORY status
 Prints output (Err Usage) status = Printed output usage_text USAGE status
@@ -64,3 +143,4 @@ Prints output (Err ReadFault) status = Silent output READ_FAULT status
 Prints output (Err Long) status = Printed output long_text REFUSED status
 Prints output (Err (Line line)) status = Printed output (line_text line) REFUSED status
 Prints output (Err DeviceFault) status = Silent output DEVICE_FAULT status
+Prints output (Err Taken) status = Printed output taken_text TAKEN status

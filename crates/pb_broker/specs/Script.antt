@@ -6,7 +6,7 @@ use Rattle.pb_object.specs.declared.request.Op.{Op}
 use Rattle.pb_object.specs.Request.{IsOperation}
 use Rattle.pb_object.specs.Text.{op_text}
 use Rattle.pb_broker.specs.declared.stop.Stop.{Stop}
-use Rattle.pb_broker.specs.declared.stop.Stop.TheVariants.{Memory, Usage, ReadFault, Long, Line, DeviceFault}
+use Rattle.pb_broker.specs.declared.stop.Stop.TheVariants.{Memory, Usage, ReadFault, Long, Line, DeviceFault, Taken}
 
 -- a request line in the plain form, as `0 1 put 3 77` with its line feed
 abbrev pub plain_line : Ask → List ℕ
@@ -58,3 +58,4 @@ StopsAtLine bytes Usage = ⊥
 StopsAtLine bytes ReadFault = ⊥
 StopsAtLine bytes Long = ⊥
 StopsAtLine bytes DeviceFault = ⊥
+StopsAtLine bytes Taken = ⊥

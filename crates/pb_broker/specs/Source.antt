@@ -4,7 +4,7 @@ use Rattle.std.specs.Io.KnownBytes.{Consumes, IsAtEnd}
 use Rattle.pb_pmem.specs.Count.{Rose}
 use Rattle.pb_broker.specs.declared.source.TheConstants.{SOURCE_LIMIT}
 use Rattle.pb_broker.specs.declared.stop.Stop.{Stop}
-use Rattle.pb_broker.specs.declared.stop.Stop.TheVariants.{Memory, Usage, ReadFault, Long, Line, DeviceFault}
+use Rattle.pb_broker.specs.declared.stop.Stop.TheVariants.{Memory, Usage, ReadFault, Long, Line, DeviceFault, Taken}
 
 -- the bytes are all that was left of a source, and not too many; nothing is left
 pub record ReadsAll (old new : Option (List ℕ)) (bytes : List ℕ) : Type 0 where
@@ -20,3 +20,4 @@ StopsReading rest before now Long = (now ≡ before) × IfSome rest (λ bytes. S
 StopsReading rest before now Usage = ⊥
 StopsReading rest before now (Line line) = ⊥
 StopsReading rest before now DeviceFault = ⊥
+StopsReading rest before now Taken = ⊥

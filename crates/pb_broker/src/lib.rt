@@ -6,6 +6,7 @@ mod outcome;
 mod output;
 mod program;
 mod region;
+mod requests;
 mod run;
 mod script;
 mod serve;
@@ -13,8 +14,9 @@ mod source;
 mod status;
 mod stop;
 mod words;
-mod writes;
 
 pub use program::{Done, top};
 pub use source::SOURCE_LIMIT;
-pub use status::{DEVICE_FAULT, DONE, OUT_OF_MEMORY, READ_FAULT, REFUSED, USAGE, WRITE_FAULT};
+pub use status::{
+    DEVICE_FAULT, DONE, OUT_OF_MEMORY, READ_FAULT, REFUSED, TAKEN, USAGE, WRITE_FAULT,
+};

@@ -6,7 +6,7 @@ ghost use Rattle.arrayvec.specs.ArrayVec.{array_vec_len};
 ghost use Rattle.pb_pmem.specs.Count.{HasCause};
 ghost use Rattle.pb_object.specs.Text.{spaced, reply_text};
 ghost use Rattle.pb_io.specs.SinkBytes.{AppendsSome};
-ghost use Rattle.pb_broker.specs.History.{history_of, history_text};
+ghost use Rattle.pb_broker.specs.History.{history_with, history_text};
 ghost use Rattle.pb_broker.specs.Outcome.{answered, entry_line};
 ghost use Rattle.pb_broker.specs.Pieces.{Passes};
 
@@ -29,8 +29,8 @@ pub fn write_outcomes<K: Sink>(
     replies: &[Reply],
 ) -> Result<(), SinkFault>
     requires { length replies.now ≡ length asks.now }
-    ensures ok { OnOk result (Appends (K.bytes sink.old) (K.bytes sink.new) (history_text (history_of asks.now replies.now))) }
-    ensures err { OnErr result (AppendsSome (K.bytes sink.old) (K.bytes sink.new) (history_text (history_of asks.now replies.now))) }
+    ensures ok { OnOk result (Appends (K.bytes sink.old) (K.bytes sink.new) (history_text (history_with asks.now replies.now))) }
+    ensures err { OnErr result (AppendsSome (K.bytes sink.old) (K.bytes sink.new) (history_text (history_with asks.now replies.now))) }
     ensures cause { HasCause (K.fault_count sink.old) (K.fault_count sink.new) result }
 {
     let mut pending = ArrayVec::<u8, PIECE>::new();

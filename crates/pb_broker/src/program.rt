@@ -4,12 +4,15 @@ ghost use Rattle.std.specs.String.{string_bytes};
 ghost use Rattle.std.specs.Io.KnownBytes.{Keeps};
 ghost use Rattle.pb_pmem.specs.Count.{Rose};
 ghost use Rattle.pb_broker.specs.Run.{Prints};
-ghost use Rattle.pb_broker.specs.Top.{Call, Output, IsAnswered};
+ghost use Rattle.pb_broker.specs.Top.{Reading, Call, Output, IsAnswered};
 
 use crate::outcome::write_outcomes;
 use crate::output::{send, write_line};
-use crate::run::Served;
-use crate::status::{DEVICE_FAULT, DONE, OUT_OF_MEMORY, READ_FAULT, REFUSED, USAGE, WRITE_FAULT};
+use crate::requests::Requests;
+use crate::run::{Outcome, run};
+use crate::status::{
+    DEVICE_FAULT, DONE, OUT_OF_MEMORY, READ_FAULT, REFUSED, TAKEN, USAGE, WRITE_FAULT,
+};
 use crate::stop::Stop;
 use pb_io::{Gate, Sink, SinkFault, Source};
 use pb_pmem::Pmem;
@@ -24,11 +27,12 @@ pub struct Done<P: Drop> {
     pub device: P,
 }
 
-/// Does what the words say: `fresh map 1 SIZE` formats the device, whatever it holds, as a map for one client,
-/// and runs the source's script. Any other words are no command.
+/// Does what the words say: `fresh map 1 SIZE` formats a device that has no region, as a map for one client, and runs the source's
+/// script. Any other words are no command.
 ///
 /// The words are judged first, then the source is read, then its lines are judged, then the device is formatted and the script is run,
-/// and then the outcomes are written. All memory is taken before the device is touched.
+/// and then the outcomes are written. All memory is taken before the device is written to. Each request is durable when it is served:
+/// wherever a crash falls, the region is found as it was before a request or behind it.
 pub fn top<S: Source, K: Sink, P: Pmem + Send, G: Gate>(
     alloc: Global,
     words: &[String],
@@ -37,15 +41,14 @@ pub fn top<S: Source, K: Sink, P: Pmem + Send, G: Gate>(
     device: P,
     gate: &G,
 ) -> Done<P>
-    ensures { let call : Call = record {
+    ensures { let read : Reading = record {
       words = map string_bytes words.now;
       source = S.rest source.old;
       left = S.rest source.new;
-      reads_before = S.fault_count source.old;
-      reads = S.fault_count source.new;
-      before = P.seen device;
-      after = P.seen result.device;
+      faults_before = S.fault_count source.old;
+      faults = S.fault_count source.new;
     } in
+        let call : Call = record { read = read; before = P.seen device; after = P.seen result.device } in
         let output : Output = record {
           before = K.bytes sink.old;
           after = K.bytes sink.new;
@@ -54,14 +57,13 @@ pub fn top<S: Source, K: Sink, P: Pmem + Send, G: Gate>(
         } in
         IsAnswered call output result.status }
 {
-    let mut device = device;
-    let outcome = Served::run(alloc, words, source, &mut device, gate);
-    let status = print(sink, &outcome);
+    let Outcome { served, device } = run(alloc, words, source, device, gate);
+    let status = print(sink, &served);
     Done { status, device }
 }
 
 // Prints what a run came to, and gives its status.
-fn print<K: Sink>(sink: &mut K, outcome: &Result<Served, Stop>) -> u8
+fn print<K: Sink>(sink: &mut K, outcome: &Result<Requests, Stop>) -> u8
     ensures { let output : Output = record {
       before = K.bytes sink.old;
       after = K.bytes sink.new;
@@ -105,6 +107,10 @@ fn print_stop<K: Sink>(sink: &mut K, stop: &Stop) -> u8
             status_of(sink, written, REFUSED)
         }
         Stop::DeviceFault => DEVICE_FAULT,
+        Stop::Taken => {
+            let written = send(sink, b"taken\n");
+            status_of(sink, written, TAKEN)
+        }
     }
 }
 

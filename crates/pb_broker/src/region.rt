@@ -5,96 +5,84 @@ ghost use Rattle.pb_object.specs.ObjectLines.{StandFor};
 ghost use Rattle.pb_layout.specs.ClientLine.{client_line_of};
 ghost use Rattle.pb_layout.specs.Record.{count_line_of};
 
-use crate::writes::{write_header, write_lines};
-use pb_layout::{Header, client_line, count_line, header_line, record_len, record_line};
+use pb_layout::{Header, client_line, count_line, record_len};
 use pb_map::RegMap;
 use pb_object::{Ask, Kept, Kind, Object, Reply};
-use pb_pmem::{Line, Pmem, PmemFault};
-use std::alloc::{AllocError, Global};
+use pb_pair::{Pair, Refused, Why};
+use pb_pmem::{DeviceFault, Line, Pmem};
+use std::alloc::Global;
 
-/// A region of one map and one client, as it was last written to a device.
+/// A region of one map and one client: the pair that keeps its records, and what the record in use stands for.
 #[derive(Drop)]
-pub struct Region {
-    pub head: Header,
-    /// How many rounds there were.
-    pub round: u64,
+pub struct Region<P: Pmem> {
+    pub pair: Pair<P>,
     /// The client's last request, and its reply.
     pub kept: Kept,
     pub map: RegMap,
-    /// The lines of the record in use.
-    pub block: Vec<Line>,
+    /// The lines of the next record.
+    pub next: Vec<Line>,
 }
 
-impl Region {
-    ghost use Rattle.std.specs.Prelude.{◌≡◌, ◌+◌, ◌<◌, ◌≤◌, IfOk, OnOk, IfSome, length, vec_len};
-    ghost use Rattle.pb_layout.specs.Header.{IsHeader, record_length};
-    ghost use Rattle.pb_pmem.specs.Count.{HasCause};
-    ghost use Rattle.pb_object.specs.declared.kind.Kind.TheVariants.{Map};
+impl<P: Pmem> Region<P> {
+    ghost use Rattle.std.specs.Prelude.{◌≡◌, ◌+◌, ◌<◌, ◌≤◌, IfOk, IfErr, OnErr};
     ghost use Rattle.pb_object.specs.declared.request.TheConstants.{LAST_NUMBER};
-    ghost use Rattle.pb_object.specs.History.{after_round, IsLegalRound};
-    ghost use Rattle.pb_object.specs.Standing.{empty_standing};
-    ghost use Rattle.pb_broker.specs.Outcome.{answered, alone};
-    ghost use Rattle.pb_broker.specs.Region.{standing_of, IsBlock, IsSound, IsStored};
+    ghost use Rattle.pb_broker.specs.Region.{RegionView, IsSound};
     ghost use Rattle.pb_broker.specs.Script.{IsRequest};
+    ghost use Rattle.pb_broker.specs.Serving.{IsFresh, IsRefusal, IsServed, FailsToServe};
 
-    /// A region in which nothing was asked yet.
-    pub fn new(alloc: Global, size: u32) -> Result<Region, AllocError>
+    /// Makes a region on a device that has none, in which nothing was asked yet. Memory is taken before the device is written to.
+    pub fn format(alloc: Global, device: P, size: u32) -> Result<Region<P>, Refused<P>>
         requires least { 1 ≤ size }
         requires most { size ≤ 1024 }
-        ensures { IfOk result (λ region. IsSound region × (standing_of region ≡ empty_standing Map 1 size)) }
+        ensures ok { IfOk result (λ region.
+            let new : RegionView = record { pair = region.pair; kept = region.kept; registers = region.map; next = region.next.items } in
+            IsFresh size (P.seen device) new) }
+        ensures err { IfErr result (λ refused. IsRefusal size (P.seen device) (P.seen refused.device) refused.why) }
     {
         let head = Header {
             kind: Kind::Map,
             clients: 1,
             size,
         };
-        let mut region = Region {
-            head,
-            round: 0,
-            kept: Kept::default(),
-            map: RegMap::fresh(alloc, size)?,
-            block: vec![in alloc; Line::default(); record_len(&head) as usize]?,
+        let Ok(map) = RegMap::fresh(alloc, size) else {
+            return Err(Refused {
+                device,
+                why: Why::Memory,
+            });
         };
-        region.fill();
-        Ok(region)
+        let Ok(mut next) = vec![in alloc; Line::default(); record_len(&head) as usize] else {
+            return Err(Refused {
+                device,
+                why: Why::Memory,
+            });
+        };
+        let kept = Kept::default();
+        fill(0, &kept, &map, &mut next);
+        match Pair::format(alloc, device, &head, &next, &[]) {
+            Ok(pair) => Ok(Region {
+                pair,
+                kept,
+                map,
+                next,
+            }),
+            Err(refused) => Err(refused),
+        }
     }
 
-    // Writes the lines of the record in use.
-    fn fill(&mut self)
-        requires valid { IsHeader self.old.head }
-        requires kind { self.old.head.kind ≡ Map }
-        requires clients { self.old.head.clients ≡ 1 }
-        requires size { length self.old.map ≡ self.old.head.size }
-        requires count { vec_len self.old.block ≡ record_length self.old.head }
-        ensures block { IsBlock self.old.head self.old.round self.old.kept self.old.map self.new.block.items }
-        ensures same { self.new ≡ record self.old { block = self.new.block } }
-    {
-        fill(self.round, &self.kept, &self.map, &mut self.block);
-    }
-
-    /// Formats a device, whatever it holds.
-    pub fn format<P: Pmem>(&self, device: &mut P) -> Result<(), PmemFault>
-        requires { IsSound self.now }
-        ensures ok { OnOk result (self.now.round ≡ 0 → IfSome (P.seen device.new).now (IsStored self.now)) }
-        ensures cause { HasCause (P.seen device.old).faults (P.seen device.new).faults result }
-    {
-        write_lines(device, record_line(&self.head, 0, 0), &self.block)?;
-        write_lines(device, 1, &[Line::default(), Line::default()])?;
-        write_header(device, &header_line(&self.head))
-    }
-
-    /// Serves a request in a round of its own, and stores it. After an error nothing is known of the device's lines.
-    pub fn serve<P: Pmem>(&mut self, device: &mut P, ask: &Ask) -> Result<Reply, PmemFault>
-        requires sound { IsSound self.old }
+    /// Serves a request in a round of its own, and stores it. After an error the region is only closed.
+    pub fn serve(&mut self, ask: &Ask) -> Result<Reply, DeviceFault>
+        requires sound { let old : RegionView = record { pair = self.old.pair; kept = self.old.kept; registers = self.old.map; next = self.old.next.items } in
+            IsSound old }
         requires request { IsRequest (self.old.kept.number + 1) ask.now }
         requires few { self.old.kept.number < LAST_NUMBER }
-        ensures sound { OnOk result (IsSound self.new) }
-        ensures number { OnOk result (self.new.kept.number ≡ ask.now.number) }
-        ensures legal { IfOk result (λ reply. IsLegalRound (standing_of self.old) (alone (answered ask.now reply))) }
-        ensures after { IfOk result (λ reply. standing_of self.new ≡ after_round (standing_of self.old) (alone (answered ask.now reply))) }
-        ensures stored { OnOk result
-            (IfSome (P.seen device.old).now (IsStored self.old) → IfSome (P.seen device.new).now (IsStored self.new)) }
-        ensures cause { HasCause (P.seen device.old).faults (P.seen device.new).faults result }
+        ensures ok { IfOk result (λ reply.
+            let old : RegionView = record { pair = self.old.pair; kept = self.old.kept; registers = self.old.map; next = self.old.next.items } in
+            let new : RegionView = record { pair = self.new.pair; kept = self.new.kept; registers = self.new.map; next = self.new.next.items } in
+            IsServed ask.now reply old new) }
+        ensures err { OnErr result (
+            let old : RegionView = record { pair = self.old.pair; kept = self.old.kept; registers = self.old.map; next = self.old.next.items } in
+            let new : RegionView = record { pair = self.new.pair; kept = self.new.kept; registers = self.new.map; next = self.new.next.items } in
+            FailsToServe ask.now old new) }
     {
         let reply = self.map.apply(&ask.op);
         self.kept = Kept {
@@ -102,23 +90,32 @@ impl Region {
             op: ask.op,
             reply,
         };
-        self.round += 1;
-        self.fill();
-        let spare = record_line(&self.head, 0, (self.round % 2) as u32);
-        write_lines(device, spare, &self.block)?;
-        device.set_word(1, 0, self.round)?;
+        fill(
+            self.pair.round(0) + 1,
+            &self.kept,
+            &self.map,
+            &mut self.next,
+        );
+        self.pair.store(0, &self.next)?;
         Ok(reply)
+    }
+
+    /// Hands the device back.
+    pub fn close(self) -> P
+        ensures { P.seen result ≡ self.pair.device }
+    {
+        self.pair.close()
     }
 }
 
 // Writes the lines of a record: its round, the request of its one client, and the map's registers.
-fn fill(round: u64, kept: &Kept, map: &RegMap, block: &mut [Line])
-    requires { length block.old ≡ 2 + (length map.now + 3) / 4 }
-    ensures first { line_at block.new 0 ≡ count_line_of round }
-    ensures second { line_at block.new 1 ≡ client_line_of kept.now }
-    ensures objects { StandFor (drop 2 block.new) (Registers map.now) }
+fn fill(round: u64, kept: &Kept, map: &RegMap, lines: &mut [Line])
+    requires { length lines.old ≡ 2 + (length map.now + 3) / 4 }
+    ensures first { line_at lines.new 0 ≡ count_line_of round }
+    ensures second { line_at lines.new 1 ≡ client_line_of kept.now }
+    ensures objects { StandFor (drop 2 lines.new) (Registers map.now) }
 {
-    map.put_lines(&mut block[2..]);
-    block[0] = count_line(round);
-    block[1] = client_line(kept);
+    map.put_lines(&mut lines[2..]);
+    lines[0] = count_line(round);
+    lines[1] = client_line(kept);
 }

@@ -20,3 +20,6 @@ pub const WRITE_FAULT: u8 = 5;
 
 /// A call of the device failed. Nothing was printed.
 pub const DEVICE_FAULT: u8 = 6;
+
+/// The device that was to be formatted has a region. `taken` was printed.
+pub const TAKEN: u8 = 7;

@@ -1,7 +1,6 @@
 ghost use Rattle.std.specs.Prelude.{◌≡◌};
-ghost use Rattle.pb_broker.specs.declared.stop.Stop.TheVariants.{Memory, DeviceFault};
+ghost use Rattle.pb_broker.specs.declared.stop.Stop.TheVariants.{Memory};
 
-use pb_pmem::PmemFault;
 use std::alloc::{AllocError, AllocFailed};
 
 /// Why a run ends before its outcomes.
@@ -19,6 +18,8 @@ pub enum Stop {
     Line(u64),
     /// A call of the device failed.
     DeviceFault,
+    /// The device that was to be formatted has a region.
+    Taken,
 }
 
 impl From<AllocError> for Stop {
@@ -34,13 +35,5 @@ impl<T: Drop> From<AllocFailed<T>> for Stop {
 
     fn from(_: AllocFailed<T>) -> Self {
         Stop::Memory
-    }
-}
-
-impl From<PmemFault> for Stop {
-    ghost from_gives = { λ _ stop. stop ≡ DeviceFault };
-
-    fn from(_: PmemFault) -> Self {
-        Stop::DeviceFault
     }
 }

@@ -26,7 +26,8 @@ use Rattle.pb_layout.proofs.Turn.{represents_from_records}
 use Rattle.pb_layout_laws.specs.Exits.{IsEmptyRecord, AreEmptyRecords, records_of, empty_for}
 use Rattle.pb_layout_laws.proofs.Images.{image_of, line_in, line_in-is, line_at-image_of, length-image_of}
 use Rattle.pb_layout_laws.proofs.Laid.{HasLaid, IsFreshLine, Formed}
-use Rattle.pb_layout_laws.proofs.Laying.{IsLaidIn, record_fits}
+use Rattle.pb_layout.proofs.OneAnswer.{record_fits}
+use Rattle.pb_layout_laws.proofs.Laying.{IsLaidIn}
 
 -- The empty standing
 
@@ -138,7 +139,7 @@ formed_stands head first second lines count words valid empty is long formed =
     in_use : (side : ℕ) → side < side_count head.kind → record_of_side image (empty_for head) side ≡ records side
     in_use side here =
         let long_record = (empty_record head first second empty side here).long in
-        let fits = record_fits head side valid here in
+        let fits = record_fits head side 0 valid here (omega arith) in
         ap (λ (n : ℕ). record_in_use image head side n) (no_rounds head side) ∙ (ap (λ (n : ℕ). take n (drop (record_place head side 0) image)) (sym long_record) ∙ piece_is image (records side) (record_place head side 0) (omega (arith, long_record, fits, length-image_of count words, long)) (λ place inside. line_at-image_of count words (record_place head side 0 + place) (omega (arith, inside, long_record, fits, long)) ∙ laid_record side here place (omega (arith, inside, long_record))))
 
     apart : AreApart head records

@@ -1,5 +1,5 @@
 -- What a device holds behind the writes that lay a fresh region.
-use Rattle.std.proofs.Common.{◌≡◌, ℕ, zero, suc, ◌+◌, ◌*◌, ◌<◌, ◌≤◌, ◌⊎◌, List, [], ◌∷◌, ◌++◌, length, get_or, set, slice_index, ap, subst, sym, refl, ◌∙◌, inl, inr, arith}
+use Rattle.std.proofs.Common.{◌≡◌, ℕ, zero, suc, ◌+◌, ◌<◌, ◌≤◌, ◌⊎◌, List, [], ◌∷◌, ◌++◌, length, get_or, set, slice_index, ap, subst, sym, refl, ◌∙◌, inl, inr, arith}
 use Rattle.pb_pmem.specs.declared.line.Line.{Line}
 use Rattle.pb_pmem.specs.declared.line.TheConstants.{LINES}
 use Rattle.pb_pmem.specs.declared.log.LogOp.{LogOp}
@@ -10,12 +10,12 @@ use Rattle.pb_pmem.proofs.Lines.{contents-append, length-contents}
 use Rattle.pb_object.specs.Codes.{kind_code}
 use Rattle.pb_object.specs.declared.kind.Kind.{Kind}
 use Rattle.pb_object.specs.declared.kind.Kind.TheVariants.{Map, Stack, Heap, Queue}
-use Rattle.pb_object.specs.ObjectLines.{object_line_count}
 use Rattle.pb_object.specs.Standing.{side_count}
-use Rattle.pb_layout.specs.Header.{IsHeader, record_length, first_record_line, header_line_of, cell_count}
+use Rattle.pb_layout.specs.Header.{IsHeader, record_length, first_record_line, header_line_of}
 use Rattle.pb_layout.specs.Region.{record_place}
 use Rattle.pb_layout.specs.declared.header.Header.{Header}
 use Rattle.pb_layout.proofs.Lines.{eight_words}
+use Rattle.pb_layout.proofs.OneAnswer.{record_fits}
 use Rattle.pb_layout_laws.specs.Calls.{writes_from, header_words}
 use Rattle.pb_layout_laws.specs.Exits.{AreEmptyRecords}
 use Rattle.pb_layout_laws.proofs.Writes.{line_at-writes_other, line_at-writes_here}
@@ -102,29 +102,6 @@ pub record IsLaidIn (head : Header) (first second lines : List Line) : Type 0 wh
   pub first_lines : (place : ℕ) → place < record_length head → line_at lines (record_place head 0 0 + place) ≡ line_at first place
   pub second_lines : 1 < side_count head.kind → (place : ℕ) → place < record_length head → line_at lines (record_place head 1 0 + place) ≡ line_at second place
 
--- a region is within the device
-lines_few : (kind : Kind) (clients size : ℕ) → clients ≤ 16 → 1 ≤ size → size ≤ 1024 → 3 + cell_count kind size + 2 * side_count kind * (1 + clients + object_line_count kind size) ≤ LINES
-lines_few Map clients size few some small = omega arith
-lines_few Stack clients size few some small = omega arith
-lines_few Heap clients size few some small = omega arith
-lines_few Queue clients size few some small = omega arith
-
-record_end : (kind : Kind) (cells length clients size side : ℕ) → side < side_count kind → 3 + cells + 2 * side_count kind * length ≤ LINES → 3 + cells + (2 * side + 0) * length + length ≤ LINES
-record_end Map cells length clients size zero here few = omega arith
-record_end Stack cells length clients size zero here few = omega arith
-record_end Heap cells length clients size zero here few = omega arith
-record_end Queue cells length clients size zero here few = omega arith
-record_end Queue cells length clients size (suc zero) here few = omega arith
-record_end Map cells length clients size (suc side) here few = absurd (omega arith)
-record_end Stack cells length clients size (suc side) here few = absurd (omega arith)
-record_end Heap cells length clients size (suc side) here few = absurd (omega arith)
-record_end Queue cells length clients size (suc (suc side)) here few = absurd (omega arith)
-
--- a side's first record is within the device
-pub record_fits : (head : Header) (side : ℕ) → IsHeader head → side < side_count head.kind → record_place head side 0 + record_length head ≤ LINES
-record_fits head side valid here =
-    record_end head.kind (cell_count head.kind head.size) (record_length head) head.clients head.size side here (lines_few head.kind head.clients head.size valid.few_clients valid.some_size valid.small_size)
-
 -- an object has one side or two
 pub one_or_two : (kind : Kind) → (side_count kind ≡ 1) ⊎ (side_count kind ≡ 2)
 one_or_two Map = inl refl
@@ -166,6 +143,6 @@ laid_in head first second a valid empty long = subst (IsLaidIn head first second
       header = front.header;
       first_round = front.first;
       second_round = front.second;
-      first_lines = λ place inside. front.others (record_place head 0 0 + place) (omega (arith, record_behind head 0 0)) ∙ (line_at-writes_other b (record_place head 1 0) second (record_place head 0 0 + place) (inl (omega (arith, inside))) ∙ line_at-writes_here a (record_place head 0 0) first place (omega (arith, inside, empty.first_record.long)) (omega (arith, empty.first_record.long, long, record_fits head 0 valid some)));
-      second_lines = λ two place inside. front.others (record_place head 1 0 + place) (omega (arith, record_behind head 1 0)) ∙ line_at-writes_here b (record_place head 1 0) second place (omega (arith, inside, (empty.second_record two).long)) (omega (arith, (empty.second_record two).long, long_b, record_fits head 1 valid two));
+      first_lines = λ place inside. front.others (record_place head 0 0 + place) (omega (arith, record_behind head 0 0)) ∙ (line_at-writes_other b (record_place head 1 0) second (record_place head 0 0 + place) (inl (omega (arith, inside))) ∙ line_at-writes_here a (record_place head 0 0) first place (omega (arith, inside, empty.first_record.long)) (omega (arith, empty.first_record.long, long, record_fits head 0 0 valid some (omega arith))));
+      second_lines = λ two place inside. front.others (record_place head 1 0 + place) (omega (arith, record_behind head 1 0)) ∙ line_at-writes_here b (record_place head 1 0) second place (omega (arith, inside, (empty.second_record two).long)) (omega (arith, (empty.second_record two).long, long_b, record_fits head 1 0 valid two (omega arith)));
     }

@@ -21,7 +21,6 @@ use Rattle.pb_pmem.proofs.Words.{same_images}
 use Rattle.pb_object.specs.History.{Round, after_round, IsLegalRound}
 use Rattle.pb_object.specs.Standing.{Standing, rounds_of, side_count}
 use Rattle.pb_layout.specs.Covers.{IsCoveredBy, Covers}
-use Rattle.pb_layout.specs.Damage.{HasRegion}
 use Rattle.pb_layout.specs.Header.{word}
 use Rattle.pb_layout.specs.LogHistory.{raises_index, recorded_by_op, history_behind}
 use Rattle.pb_layout.specs.Ready.{StandsFor, StandsForOne, HasStanding, IsSettlingWord, IsAllowed, AreMembers, IsReady}
@@ -32,6 +31,8 @@ use Rattle.pb_layout.proofs.OneStanding.{one_standing, few_sides}
 use Rattle.pb_layout.proofs.Readiness.{ready_is_kept, settling_word, allowed_writes_same}
 use Rattle.pb_layout_laws.specs.Calls.{IsCutOff, MayAdd, settling}
 use Rattle.pb_layout_laws.specs.Exits.{Leaves}
+use Rattle.pb_layout.proofs.OneAnswer.{region_from}
+use Rattle.pb_layout_laws.proofs.Compose.{stands_for_one}
 use Rattle.pb_layout_laws.proofs.Fronts.{IsAsAtStart, IsCoveredFront, covers_by_fronts}
 use Rattle.pb_layout_laws.proofs.Images.{image_of, word_of-past, word_of-image_of_or, left_image}
 use Rattle.pb_layout_laws.proofs.Rounds.{next_side, next_rounds}
@@ -103,24 +104,13 @@ along s P step log (op ∷ ops) settle holds =
 
 -- Members
 
--- lines have the magic where they stand for a standing
-region_of : (image : List Line) (s : Standing) → Represents image s → HasRegion image
-region_of image s stands = ap (λ (l : Line). word l 0) stands.header
-
--- lines stand for one member at most
-pub one_member : (image : List Line) (m n : Option Standing) → StandsFor image m → StandsFor image n → m ≡ n
-one_member image None None left right = refl
-one_member image None (Some t) left right = absurd (left (region_of image t right))
-one_member image (Some s) None left right = absurd (right (region_of image s left))
-one_member image (Some s) (Some t) left right = ap Some (one_standing image s t left right)
-
 member_is : (held image : List Line) (m : Option Standing) (s : Standing) → StandsFor held m → Represents held s → StandsFor image m → Represents image s
-member_is held image m s stood stands member = subst (λ (x : Option Standing). StandsFor image x) (one_member held m (Some s) stood stands) member
+member_is held image m s stood stands member = subst (λ (x : Option Standing). StandsFor image x) (stands_for_one held m (Some s) stood stands) member
 
 -- what holds of the standing that a member's lines stand for holds of a member
 has_standing : (P : Standing → Type 0) (members : List (Option Standing)) (held : List Line) (s : Standing) → StandsForOne held members → Represents held s → P s → HasStanding P members
 has_standing P [] held s member stands holds = absurd member
-has_standing P (None ∷ members) held s (inl nothing) stands holds = absurd (nothing (region_of held s stands))
+has_standing P (None ∷ members) held s (inl nothing) stands holds = absurd (nothing (region_from held s stands))
 has_standing P (None ∷ members) held s (inr other) stands holds = has_standing P members held s other stands holds
 has_standing P (Some t ∷ members) held s (inl here) stands holds = inl (subst P (one_standing held s t stands here) holds)
 has_standing P (Some t ∷ members) held s (inr other) stands holds = inr (has_standing P members held s other stands holds)
@@ -178,7 +168,7 @@ HasSettled s image = (line : ℕ) → line < 3 → word_of image line 0 ≡ sett
 
 -- lines that stand for s have them
 pub settled_in : (image : List Line) (s : Standing) → Represents image s → HasSettled s image
-settled_in image s stands zero below = region_of image s stands
+settled_in image s stands zero below = region_from image s stands
 settled_in image s stands (suc side) below =
     let place : suc side ≡ 1 + side = omega arith in
     ap (λ (line : ℕ). word_of image line 0) place ∙ ap (λ (l : Line). word l 0) (stands.rounds side (omega arith))
@@ -224,7 +214,7 @@ settled_member (Some a ∷ Some b ∷ []) held image s (round, legal, e) (inr (i
     absurd (rounds_differ image held a round legal i (subst (Represents held) e h) (λ line below. has line below ∙ sym (settled_in held s stands line below)))
 settled_member (Some a ∷ Some b ∷ []) held image s shape (inr (inr h)) stands i has = absurd h
 settled_member (Some a ∷ Some b ∷ []) held image s shape h stands (inr (inr i)) has = absurd i
-settled_member (None ∷ Some e ∷ []) held image s shape (inl nothing) stands i has = absurd (nothing (region_of held s stands))
+settled_member (None ∷ Some e ∷ []) held image s shape (inl nothing) stands i has = absurd (nothing (region_from held s stands))
 settled_member (None ∷ Some e ∷ []) held image s shape h stands (inl nothing) has = absurd (nothing (has 0 (omega arith)))
 settled_member (None ∷ Some e ∷ []) held image s shape (inr (inl h)) stands (inr (inl i)) has = member_is held image (Some e) s h stands i
 settled_member (None ∷ Some e ∷ []) held image s shape (inr (inr h)) stands i has = absurd h
@@ -268,7 +258,7 @@ as_before base start before image s same (inr at_start) (inr (inr (m, left, righ
       left = at_start.left;
       member = at_start.member;
       stood = at_start.stood;
-      stands = subst (λ (x : Option Standing). StandsFor image x) (one_member before m at_start.member left at_start.stands) right;
+      stands = subst (λ (x : Option Standing). StandsFor image x) (stands_for_one before m at_start.member left at_start.stands) right;
     })
 
 settling_step : (base : List Line) (start : List LogOp) (members : List (Option Standing)) (s : Standing) (held : List Line) → StandsForOne held members → Represents held s → (log : List LogOp) (op : LogOp) → Settles s op → IsSettling base start members s log → IsSettling base start members s (log ++ op ∷ [])

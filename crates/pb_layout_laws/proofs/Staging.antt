@@ -1,8 +1,9 @@
 -- A store before its index word: the images stay what they were, and in the end the spare record is there.
-use Rattle.std.proofs.Common.{◌≡◌, ℕ, suc, ◌+◌, ◌-◌, ◌%◌, ◌<◌, ◌≤◌, ◌⊎◌, take, drop, List, [], ◌∷◌, ◌++◌, length, reverse, ap, subst, sym, refl, ◌∙◌, inl, inr, arith}
+use Rattle.std.proofs.Common.{◌≡◌, ℕ, suc, ◌+◌, ◌-◌, ◌%◌, ◌<◌, ◌≤◌, ◌⊎◌, List, [], ◌∷◌, ◌++◌, length, reverse, ap, subst, sym, refl, ◌∙◌, inl, inr, arith}
 use Rattle.std.specs.List.{All}
-use Rattle.std.proofs.lemmas.List.{append_assoc, take-append-drop}
-use Rattle.std.proofs.lemmas.List.Elements.{All-head, All-tail, All-nil, All-cons, All-append}
+use Rattle.std.proofs.Math.Seq.{take-append_seam, drop-append_seam}
+use Rattle.std.proofs.lemmas.List.{append_assoc}
+use Rattle.std.proofs.lemmas.List.Elements.{All-head, All-tail, All-nil, All-cons, All-append, All-take, All-drop}
 use Rattle.pb_pmem.specs.declared.line.Line.{Line}
 use Rattle.pb_pmem.specs.declared.line.TheConstants.{LINES}
 use Rattle.pb_pmem.specs.declared.log.LogOp.{LogOp}
@@ -68,23 +69,12 @@ quiet_added first count Fence op quiet added = subst (λ (o : LogOp). IsQuiet fi
 quiet_added first count Sync op quiet added = absurd quiet
 
 -- and so is what is left of it where it is cut off
-All-front : {X : Type 0} (P : X → Type 0) (xs ys : List X) → All P (xs ++ ys) → All P xs
-All-front P [] ys all = All-nil P
-All-front P (x ∷ xs) ys all = All-cons P x xs (All-head P x (xs ++ ys) all) (All-front P xs ys (All-tail P x (xs ++ ys) all))
-
-All-back : {X : Type 0} (P : X → Type 0) (xs ys : List X) → All P (xs ++ ys) → All P ys
-All-back P [] ys all = all
-All-back P (x ∷ xs) ys all = All-back P xs ys (All-tail P x (xs ++ ys) all)
-
-pub All-take : {X : Type 0} (P : X → Type 0) (count : ℕ) (xs : List X) → All P xs → All P (take count xs)
-All-take P count xs all = All-front P (take count xs) (drop count xs) (subst (λ l. All P l) (sym (take-append-drop count xs)) all)
-
 pub quiet_cut_off : (first count : ℕ) (all ops : List LogOp) → All (IsQuiet first count) all → IsCutOff all ops → All (IsQuiet first count) ops
 quiet_cut_off first count all ops quiet cut =
     let Q = IsQuiet first count in
     let whole = subst (λ (l : List LogOp). All Q l) cut.whole quiet in
-    let front = All-front Q cut.front (cut.failed ∷ cut.rest) whole in
-    let failed = All-head Q cut.failed cut.rest (All-back Q cut.front (cut.failed ∷ cut.rest) whole) in
+    let front = subst (λ (l : List LogOp). All Q l) (take-append_seam cut.front (cut.failed ∷ cut.rest)) (All-take Q (length cut.front) (cut.front ++ cut.failed ∷ cut.rest) whole) in
+    let failed = All-head Q cut.failed cut.rest (subst (λ (l : List LogOp). All Q l) (drop-append_seam cut.front (cut.failed ∷ cut.rest)) (All-drop Q (length cut.front) (cut.front ++ cut.failed ∷ cut.rest) whole)) in
     elim cut.added [
       | inl same ↦ subst (λ (l : List LogOp). All Q l) (sym same) front
       | inr more ↦ subst (λ (l : List LogOp). All Q l) (sym more.2) (All-append Q cut.front (more.0 ∷ []) front (All-cons Q more.0 [] (quiet_added first count cut.failed more.0 failed more.1) (All-nil Q)))

@@ -1,6 +1,7 @@
 -- A store that is left anywhere: what it covers, and how it leaves the device.
 use Rattle.std.proofs.Common.{◌≡◌, ℕ, zero, suc, ◌+◌, ◌-◌, ◌%◌, ◌<◌, ◌≤◌, ◌⊎◌, Bool, true, false, ◌||◌, ◌&&◌, ◌==◌, List, [], ◌∷◌, ◌++◌, length, take, drop, reverse, slice_index, Some, ap, subst, sym, refl, ◌∙◌, inl, inr, arith}
 use Rattle.std.specs.List.{All}
+use Rattle.std.proofs.lemmas.List.Elements.{All-take}
 use Rattle.std.proofs.Math.Seq.{take-append-add}
 use Rattle.std.proofs.lemmas.Bool.{cases_lt}
 use Rattle.std.proofs.lemmas.Bool.Decides.{nat_tests}
@@ -36,7 +37,7 @@ use Rattle.pb_layout_laws.proofs.Fronts.{IsCoveredFront, covers_by_fronts}
 use Rattle.pb_layout_laws.proofs.Geometry.{parity-lt, spare_is_other}
 use Rattle.pb_layout_laws.proofs.NextEntries.{next_round}
 use Rattle.pb_layout_laws.proofs.Rounds.{next_side, next_rounds, next_rounds_other}
-use Rattle.pb_layout_laws.proofs.Staging.{IsQuiet, quiet_staging, quiet_cut_off, quiet_history, quiet_bounds, IsOld, place_of, keeps_old, sides_few, All-take}
+use Rattle.pb_layout_laws.proofs.Staging.{IsQuiet, quiet_staging, quiet_cut_off, quiet_history, quiet_bounds, IsOld, place_of, keeps_old, sides_few}
 use Rattle.pb_layout_laws.proofs.Storing.{IsStore, store_stands, IsStaged, IsIndex, IsTurning, IsTurned, contents_staging, staged_bounds}
 use Rattle.pb_layout_laws.proofs.Switching.{old_word, settling_round, keeps_one, turned_new, turning_two}
 use Rattle.pb_layout_laws.proofs.Writes.{line_at-writes_other, line_at-writes_here}

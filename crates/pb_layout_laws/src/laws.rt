@@ -8,6 +8,7 @@ ghost use Rattle.pb_object.specs.History.{Round, after_round, state_after};
 ghost use Rattle.pb_object.specs.Standing.{Standing, rounds_of};
 ghost use Rattle.pb_layout.specs.declared.header.Header.{Header};
 ghost use Rattle.pb_layout.specs.Covers.{Covers};
+ghost use Rattle.pb_layout.specs.Damage.{IsFirstNamed, opening_checks};
 ghost use Rattle.pb_layout.specs.Header.{IsHeader, record_length};
 ghost use Rattle.pb_layout.specs.LogHistory.{LoggedRound, rounds_in, AreSealed};
 ghost use Rattle.pb_layout.specs.Ready.{IsReady};
@@ -115,4 +116,11 @@ pub fn coverings_compose()
         → Represents (contents base (take middle log)) (state_after s (rounds_in front))
         → Covers base log middle (state_after s (rounds_in front)) back
         → Covers base log from s (front ++ back) }
+{}
+
+/// Lines that stand for a standing pass all checks of opening. So a ready device is never found damaged.
+pub fn what_stands_is_not_damaged()
+    ensures { (image : List Line) (s : Standing) (line : ℕ)
+        → Represents image s
+        → ¬ IsFirstNamed (opening_checks image) line }
 {}

@@ -32,7 +32,7 @@ told_both None P Q R weaker first second = tt
 told_both (Some x) P Q R weaker first second = weaker x first second
 
 -- a vector that was written as a slice of its whole length holds what the slice holds
-pub written_whole : (count : ℕ) (new old : List Line) → length new ≡ length old → count ≡ length old → take count (new ++ drop (length new) old) ≡ new
+pub written_whole : {X : Type 0} (count : ℕ) (new old : List X) → length new ≡ length old → count ≡ length old → take count (new ++ drop (length new) old) ≡ new
 written_whole count new old same whole =
     ap (λ (n : ℕ). take n (new ++ drop (length new) old)) (whole ∙ sym same) ∙ take_at new (drop (length new) old) (length new) refl
 

@@ -3,3 +3,5 @@
 
 #[cfg(test)]
 mod fresh;
+#[cfg(test)]
+mod log;

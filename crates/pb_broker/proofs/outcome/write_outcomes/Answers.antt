@@ -3,18 +3,18 @@ use Rattle.std.proofs.lemmas.Result.{err_from_is_err_and, on_err_weaker}
 use Rattle.pb_io.specs.SinkBytes.{AppendsSome}
 use Rattle.pb_object.specs.declared.request.Ask.{Ask}
 use Rattle.pb_object.specs.declared.request.Reply.{Reply}
-use Rattle.pb_broker.specs.History.{history_of, history_text}
+use Rattle.pb_broker.specs.History.{history_with, history_text}
 use Rattle.pb_broker.specs.Pieces.{Passes}
-use Rattle.pb_broker.proofs.Histories.{history_of-nil}
+use Rattle.pb_broker.proofs.Histories.{history_with-nil}
 use Rattle.pb_broker.proofs.PieceLemmas.{passes_none, passes_more, passes_some, history_text-nil, history_text-more, history_text-split}
 use Rattle.pb_broker.proofs.outcome.write_outcomes.Goals as goal
 
 pub loop-place-init : goal.loop-place-init
 loop-place-init g c =
     let known = g.K.Sink.bytes c.args.sink.now in
-    let nothing : history_text (history_of [] []) ≡ [] = ap history_text history_of-nil ∙ history_text-nil in
+    let nothing : history_text (history_with [] []) ≡ [] = ap history_text history_with-nil ∙ history_text-nil in
     record {
-      passed = subst (λ pending. Passes known known [] pending (history_text (history_of [] []))) (sym c.new-pending.ensures) (subst (Passes known known [] []) (sym nothing) (passes_none known));
+      passed = subst (λ pending. Passes known known [] pending (history_text (history_with [] []))) (sym c.new-pending.ensures) (subst (Passes known known [] []) (sym nothing) (passes_none known));
       no_fault = search rules;
     }
 
@@ -31,7 +31,7 @@ loop-place-preserved g c =
     let more = history_text-more c.args.asks.now c.args.replies.now c.loop-place.place a r c.loop-place-test.true c.requires in
     let line = c.as_bytes.ensures.value ∙ c.as_str.ensures.value ∙ c.outcome_line-line.ensures in
     record {
-      passed = subst (Passes _ _ [] c.put.new.pending.items) (sym (more ∙ ap (λ l. history_text (history_of (take c.loop-place.place c.args.asks.now) (take c.loop-place.place c.args.replies.now)) ++ l) (sym line)))
+      passed = subst (Passes _ _ [] c.put.new.pending.items) (sym (more ∙ ap (λ l. history_text (history_with (take c.loop-place.place c.args.asks.now) (take c.loop-place.place c.args.replies.now)) ++ l) (sym line)))
           (passes_more _ _ _ [] c.loop-place.pending.items c.put.new.pending.items _ _ c.loop-place.invariant.passed c.in_ok-put.ensures.ok);
       no_fault = search rules;
     }

@@ -1,26 +1,13 @@
-use Rattle.std.proofs.Common.{get_or, take, sym, ap, ◌∙◌, subst, rules, arith}
-use Rattle.std.proofs.lemmas.List.{length-set}
-use Rattle.pb_object.specs.declared.request.Ask.{Ask}
-use Rattle.pb_object.specs.History.{IsLegalRound, IsLegal, after_round, state_after}
-use Rattle.pb_broker.specs.History.{history_of}
-use Rattle.pb_broker.specs.Outcome.{alone, answered}
-use Rattle.pb_broker.specs.Region.{standing_of}
+use Rattle.std.proofs.Common.{get_or, subst, arith}
+use Rattle.pb_broker.specs.Region.{RegionView}
 use Rattle.pb_broker.specs.Script.{IsRequest}
-use Rattle.pb_broker.proofs.Histories.{state_after-push, IsLegal-push, history_of-nil, history_more, AreRequests-at}
+use Rattle.pb_broker.proofs.Histories.{AreRequests-at}
+use Rattle.pb_broker.proofs.ServeLemmas.{serving_none, serving_more, serving_fails, serving_all, on_err}
 use Rattle.pb_broker.proofs.serve.serve_all.Goals as goal
 
 pub loop-place-init : goal.loop-place-init
 loop-place-init g c =
-    let s = standing_of c.args.region.now in
-    record {
-      sound = c.requires.sound;
-      places = c.requires.places;
-      number = c.requires.fresh;
-      legal = subst (IsLegal s) (sym history_of-nil) tt;
-      after = ap (state_after s) (sym history_of-nil);
-      stored = λ h. h;
-      no_fault = search rules;
-    }
+    serving_none c.args.asks.now c.args.replies.now (record { pair = c.args.region.now.pair; kept = c.args.region.now.kept; registers = c.args.region.now.map; next = c.args.region.now.next.items }) c.requires.sound c.requires.places c.requires.fresh
 
 pub serve-requires-clause-request : goal.serve-requires-clause-request
 serve-requires-clause-request g c =
@@ -30,24 +17,20 @@ serve-requires-clause-request g c =
 
 pub loop-place-preserved : goal.loop-place-preserved
 loop-place-preserved g c =
-    let kept = c.loop-place.invariant in
-    let place = c.loop-place.place in
-    let s = standing_of c.args.region.now in
-    let asks = c.args.asks.now in
-    let replies = c.loop-place.replies in
-    let reply = c.in_ok-replies.field-0 in
-    let served = c.in_ok-replies.ensures in
-    let d : Ask = record { client = 0; number = 0; op = record { code = 0; a = 0; b = 0; c = 0 } } in
-    let round = alone (answered (get_or asks place d) reply) in
-    let history = history_of (take place asks) (take place replies) in
-    let more = history_more asks replies place d reply c.loop-place-test.true kept.places in
-    let request = AreRequests-at 1 asks place d c.requires.requests c.loop-place-test.true in
-    record {
-      sound = served.sound;
-      places = length-set replies place reply ∙ kept.places;
-      number = served.number ∙ request.number ∙ omega arith;
-      legal = subst (IsLegal s) (sym more) (IsLegal-push s history round kept.legal (subst (λ t. IsLegalRound t round) kept.after served.legal));
-      after = served.after ∙ ap (λ t. after_round t round) kept.after ∙ sym (state_after-push s history round) ∙ ap (state_after s) (sym more);
-      stored = λ h. served.stored (kept.stored h);
-      no_fault = served.cause ∙ kept.no_fault;
-    }
+    let old : RegionView = record { pair = c.args.region.now.pair; kept = c.args.region.now.kept; registers = c.args.region.now.map; next = c.args.region.now.next.items } in
+    let now : RegionView = record { pair = c.loop-place.region.pair; kept = c.loop-place.region.kept; registers = c.loop-place.region.map; next = c.loop-place.region.next.items } in
+    let new : RegionView = record { pair = c.serve.new.self.pair; kept = c.serve.new.self.kept; registers = c.serve.new.self.map; next = c.serve.new.self.next.items } in
+    serving_more c.args.asks.now c.loop-place.replies c.loop-place.place _ c.in_ok-replies.field-0 old now new c.requires.requests c.loop-place-test.true c.loop-place.invariant c.in_ok-replies.ensures.ok
+
+pub returns-in_err-replies-clause-err : goal.returns-in_err-replies-clause-err
+returns-in_err-replies-clause-err g c =
+    let old : RegionView = record { pair = c.args.region.now.pair; kept = c.args.region.now.kept; registers = c.args.region.now.map; next = c.args.region.now.next.items } in
+    let now : RegionView = record { pair = c.loop-place.region.pair; kept = c.loop-place.region.kept; registers = c.loop-place.region.map; next = c.loop-place.region.next.items } in
+    let new : RegionView = record { pair = c.serve.new.self.pair; kept = c.serve.new.self.kept; registers = c.serve.new.self.map; next = c.serve.new.self.next.items } in
+    on_err c.from_residual.result (serving_fails c.args.asks.now c.loop-place.replies c.loop-place.place _ old now new c.loop-place-test.true c.loop-place.invariant c.in_err-replies.ensures.err)
+
+pub returns-clause-ok : goal.returns-clause-ok
+returns-clause-ok g c =
+    let old : RegionView = record { pair = c.args.region.now.pair; kept = c.args.region.now.kept; registers = c.args.region.now.map; next = c.args.region.now.next.items } in
+    let now : RegionView = record { pair = c.loop-place.region.pair; kept = c.loop-place.region.kept; registers = c.loop-place.region.map; next = c.loop-place.region.next.items } in
+    serving_all c.args.asks.now c.loop-place.replies c.loop-place.place old now (omega arith) c.loop-place.invariant

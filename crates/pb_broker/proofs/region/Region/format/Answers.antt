@@ -1,19 +1,23 @@
-use Rattle.std.proofs.Common.{◌≡◌, ◌∷◌, [], ap, ◌∙◌}
-use Rattle.std.proofs.lemmas.Result.{on_ok_weaker}
-use Rattle.pb_pmem.specs.Lines.{zero_line}
-use Rattle.pb_pmem.proofs.Lines.{same_line}
-use Rattle.pb_broker.specs.Writes.{OnTold, WroteHeader}
-use Rattle.pb_broker.proofs.Stored.{told_by_format}
+use Rattle.std.proofs.Common.{List, subst}
+use Rattle.pb_pmem.specs.declared.line.Line.{Line}
+use Rattle.pb_broker.specs.Region.{RegionView}
+use Rattle.pb_broker.specs.Serving.{IsFresh}
+use Rattle.pb_broker.proofs.FormattedRegion.{first_of, first_are, fresh_is, refusal_is}
 use Rattle.pb_broker.proofs.region.Region.format.Goals as goal
 
-pub returns-clause-ok : goal.returns-clause-ok
-returns-clause-ok g c =
-    let region = c.args.self.now in
-    let zero : c.default.result ≡ zero_line = same_line _ _ c.default.ensures in
-    let other : c.default-2.result ≡ zero_line = same_line _ _ c.default-2.ensures in
-    let two : c.default.result ∷ c.default-2.result ∷ [] ≡ zero_line ∷ zero_line ∷ [] = ap (λ line. line ∷ c.default-2.result ∷ []) zero ∙ ap (λ line. zero_line ∷ line ∷ []) other in
-    on_ok_weaker c.write_header.result
-    (λ (last : OnTold (WroteHeader c.header_line.result) (g.P.Pmem.seen c.write_lines-2.new.device).now (g.P.Pmem.seen c.write_header.new.device).now) first.
-    told_by_format region (g.P.Pmem.seen c.args.device.now).now _ _ _ c.record_line.result c.deref.result.now _ c.header_line.result c.requires first c.record_line.ensures c.deref.ensures.value two c.header_line.ensures
-    (g.met.P.Pmem.is_whole c.args.device.now) c.in_ok-write_lines.ensures.ok c.in_ok-write_lines-2.ensures.ok last)
-    c.write_header.ensures.ok
+pub format-requires : goal.format-requires
+format-requires g c =
+    let first = first_of c.args.size c.default-kept.result c.in-Ok.map c.record_len.result c.in-Ok-vec.next.len c.deref_mut.result.now c.in-Ok-vec.next.items c.fill.new.lines c.deref.result.now c.requires.least c.requires.most c.default-kept.ensures c.in-Ok.ensures c.record_len.ensures c.in-Ok-vec.ensures.len c.in-Ok-vec.next.ok.0 c.deref_mut.ensures.value c.fill.auto.lines c.deref.ensures.value c.fill.ensures.first c.fill.ensures.second c.fill.ensures.objects in
+    first_are c.args.size c.default-kept.result c.in-Ok.map c.deref.result.now first
+
+pub returns-in-Ok-format-clause-ok : goal.returns-in-Ok-format-clause-ok
+returns-in-Ok-format-clause-ok g c =
+    let old = g.P.Pmem.seen c.args.device in
+    let first = first_of c.args.size c.default-kept.result c.in-Ok.map c.record_len.result c.in-Ok-vec.next.len c.deref_mut.result.now c.in-Ok-vec.next.items c.fill.new.lines c.deref.result.now c.requires.least c.requires.most c.default-kept.ensures c.in-Ok.ensures c.record_len.ensures c.in-Ok-vec.ensures.len c.in-Ok-vec.next.ok.0 c.deref_mut.ensures.value c.fill.auto.lines c.deref.ensures.value c.fill.ensures.first c.fill.ensures.second c.fill.ensures.objects in
+    let fresh = fresh_is c.args.size old c.in-Ok-format.pair c.default-kept.result c.in-Ok.map c.deref.result.now first c.in-Ok-format.ensures.ok c.in-Ok-format.ensures.safe (g.met.P.Pmem.is_whole c.args.device) in
+    subst (λ (lines : List Line). let new : RegionView = record { pair = c.in-Ok-format.pair; kept = c.default-kept.result; registers = c.in-Ok.map; next = lines } in IsFresh c.args.size old new) c.deref.ensures.value fresh
+
+pub returns-in-Err-clause-err : goal.returns-in-Err-clause-err
+returns-in-Err-clause-err g c =
+    let first = first_of c.args.size c.default-kept.result c.in-Ok.map c.record_len.result c.in-Ok-vec.next.len c.deref_mut.result.now c.in-Ok-vec.next.items c.fill.new.lines c.deref.result.now c.requires.least c.requires.most c.default-kept.ensures c.in-Ok.ensures c.record_len.ensures c.in-Ok-vec.ensures.len c.in-Ok-vec.next.ok.0 c.deref_mut.ensures.value c.fill.auto.lines c.deref.ensures.value c.fill.ensures.first c.fill.ensures.second c.fill.ensures.objects in
+    refusal_is c.args.size c.default-kept.result c.in-Ok.map c.deref.result.now (g.P.Pmem.seen c.args.device) (g.P.Pmem.seen c.in-Err.refused.device) c.in-Err.refused.why first c.in-Err.ensures.err c.in-Err.ensures.fails_safe

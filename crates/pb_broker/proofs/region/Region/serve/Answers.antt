@@ -1,26 +1,32 @@
-use Rattle.std.proofs.Common.{◌≡◌, ap, ◌∙◌, sym, subst, ◌+◌, List, arith}
-use Rattle.pb_object.specs.declared.map.Register.{Register}
-use Rattle.pb_object.specs.Object.{Registers}
-use Rattle.pb_broker.specs.Region.{IsBlock}
-use Rattle.pb_broker.proofs.Served.{sound_after}
-use Rattle.pb_broker.proofs.Stored.{told_by_store}
+use Rattle.std.proofs.Common.{List, ◌++◌, length, take, drop, refl, subst}
+use Rattle.std.proofs.lemmas.Result.{err_from_is_err_and}
+use Rattle.pb_pmem.specs.declared.line.Line.{Line}
+use Rattle.pb_broker.specs.Region.{RegionView}
+use Rattle.pb_broker.specs.Serving.{IsServed}
+use Rattle.pb_broker.proofs.ServedRegion.{serving_of, next_is, served_is, fails_is}
 use Rattle.pb_broker.proofs.region.Region.serve.Goals as goal
 
-pub returns-clause-sound : goal.returns-clause-sound
-returns-clause-sound g c =
-    let old = c.args.self.now in
-    let new = c.fill.new.self in
-    let same = c.fill.ensures.same in
-    let number : c.args.ask.now.number ≡ old.kept.number + 1 = c.requires.request.number in
-    let kept = ap (λ region. region.kept) same ∙ ap (λ n. record { number = n; op = c.args.ask.now.op; reply = c.apply-reply.result }) number in
-    sound_after old new c.args.ask.now.op c.apply-reply.result c.requires.sound c.requires.request.operation.operation (omega arith) c.apply-reply.ensures.reply
-    (ap (λ region. region.head) same) (ap (λ region. region.round) same) kept (ap (λ region. region.map) same ∙ registers_are c.apply-reply.ensures.after)
-    (subst (λ region. IsBlock region.head region.round region.kept region.map new.block.items) (sym same) c.fill.ensures.block)
-  where
-    registers_are : {a b : List Register} → Registers a ≡ Registers b → a ≡ b
-    registers_are e = cc
+pub store-requires-clause-next : goal.store-requires-clause-next
+store-requires-clause-next g c =
+    let self = c.args.self.now in
+    let old : RegionView = record { pair = self.pair; kept = self.kept; registers = self.map; next = self.next.items } in
+    let serving = serving_of c.args.ask.now c.apply-reply.result old c.apply-reply.new.self c.round.result self.next.len c.deref_mut.result.now c.fill.new.lines c.deref.result.now c.requires.sound c.requires.request c.requires.few c.apply-reply.ensures.reply c.apply-reply.ensures.after c.round.ensures self.next.ok.0 c.deref_mut.ensures.value c.fill.auto.lines c.deref.ensures.value c.fill.ensures.first c.fill.ensures.second c.fill.ensures.objects in
+    next_is c.args.ask.now c.apply-reply.result old c.apply-reply.new.self c.deref.result.now serving
 
-pub returns-clause-stored : goal.returns-clause-stored
-returns-clause-stored g c stored =
-    told_by_store c.args.self.now c.fill.new.self (g.P.Pmem.seen c.args.device.now).now _ _ c.record_line-spare.result c.deref.result.now (returns-clause-sound g c)
-    (ap (λ region. region.head) c.fill.ensures.same) c.record_line-spare.ensures c.deref.ensures.value stored c.in_ok-write_lines.ensures.ok c.in_ok-set_word.ensures.ok.now
+pub returns-in_err-store-clause-err : goal.returns-in_err-store-clause-err
+returns-in_err-store-clause-err g c =
+    let self = c.args.self.now in
+    let old : RegionView = record { pair = self.pair; kept = self.kept; registers = self.map; next = self.next.items } in
+    let serving = serving_of c.args.ask.now c.apply-reply.result old c.apply-reply.new.self c.round.result self.next.len c.deref_mut.result.now c.fill.new.lines c.deref.result.now c.requires.sound c.requires.request c.requires.few c.apply-reply.ensures.reply c.apply-reply.ensures.after c.round.ensures self.next.ok.0 c.deref_mut.ensures.value c.fill.auto.lines c.deref.ensures.value c.fill.ensures.first c.fill.ensures.second c.fill.ensures.objects in
+    let new : RegionView = record { pair = c.store.new.self; kept = record { number = c.args.ask.now.number; op = c.args.ask.now.op; reply = c.apply-reply.result }; registers = c.apply-reply.new.self; next = take self.next.len (c.fill.new.lines ++ drop (length c.fill.new.lines) self.next.items) } in
+    let p = err_from_is_err_and c.from_residual.result c.from_residual.ensures.1 in
+    rw (p.1) (fails_is c.args.ask.now c.apply-reply.result old new c.deref.result.now serving c.in_err-store.ensures.err.device.stops.rose c.in_err-store.ensures.fails_safe)
+
+pub returns-clause-ok : goal.returns-clause-ok
+returns-clause-ok g c =
+    let self = c.args.self.now in
+    let old : RegionView = record { pair = self.pair; kept = self.kept; registers = self.map; next = self.next.items } in
+    let serving = serving_of c.args.ask.now c.apply-reply.result old c.apply-reply.new.self c.round.result self.next.len c.deref_mut.result.now c.fill.new.lines c.deref.result.now c.requires.sound c.requires.request c.requires.few c.apply-reply.ensures.reply c.apply-reply.ensures.after c.round.ensures self.next.ok.0 c.deref_mut.ensures.value c.fill.auto.lines c.deref.ensures.value c.fill.ensures.first c.fill.ensures.second c.fill.ensures.objects in
+    let new = λ (lines : List Line). (let region : RegionView = record { pair = c.store.new.self; kept = record { number = c.args.ask.now.number; op = c.args.ask.now.op; reply = c.apply-reply.result }; registers = c.apply-reply.new.self; next = lines } in region) in
+    subst (λ (lines : List Line). IsServed c.args.ask.now c.apply-reply.result old (new lines)) c.deref.ensures.value
+    (served_is c.args.ask.now c.apply-reply.result old (new c.deref.result.now) serving c.in_ok-store.ensures.ok c.in_ok-store.ensures.safe refl)

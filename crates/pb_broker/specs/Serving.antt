@@ -1,0 +1,102 @@
+-- Formatting and serving a region, and what a crash leaves of it.
+use Rattle.std.specs.Prelude.{◌≡◌, ◌⊎◌, ℕ, List, [], ◌∷◌, ◌++◌, Option, Some, None, IfSome}
+use Rattle.pb_pmem.specs.Count.{Rose}
+use Rattle.pb_pmem.specs.Device.{Device, Tale}
+use Rattle.pb_object.specs.declared.kind.Kind.TheVariants.{Map}
+use Rattle.pb_object.specs.declared.request.Ask.{Ask}
+use Rattle.pb_object.specs.declared.request.Reply.{Reply}
+use Rattle.pb_object.specs.History.{History, IsLegalRound, IsLegal, after_round, state_after}
+use Rattle.pb_object.specs.Object.{reply_of}
+use Rattle.pb_object.specs.Standing.{Standing, empty_standing}
+use Rattle.pb_layout.specs.Damage.{HasRegion}
+use Rattle.pb_layout.specs.LogHistory.{LoggedRound, rounds_in, AreSealed}
+use Rattle.pb_layout.specs.Represents.{Represents}
+use Rattle.pb_layout_laws.specs.Exits.{sealed_round}
+use Rattle.pb_pair.specs.declared.why.Why.{Why}
+use Rattle.pb_pair.specs.declared.why.Why.TheVariants.{Memory, Device as DeviceWhy, Taken, NoRegion, Damaged}
+use Rattle.pb_pair.specs.Safe.{held, IsReadyWith, IsLeftSafe, HasAppeared, IsInDoubt}
+use Rattle.pb_broker.specs.History.{ServesEach, served}
+use Rattle.pb_broker.specs.Region.{RegionView, map_header, standing_of, IsSound}
+
+-- the standing of a fresh map of one client
+abbrev pub fresh_map : ℕ → Standing
+fresh_map size = empty_standing Map 1 size
+
+-- the device tells lines that stand for s
+abbrev pub Holds : Standing → Device → Type 0
+Holds s device = IfSome device.now (λ lines. Represents lines s)
+
+-- where the log is told, and the device is ready with these
+abbrev pub WhereReadyWith : List (Option Standing) → Device → (Tale → Type 0) → Type 0
+WhereReadyWith members device Shown = IfSome device.told (λ tale. IsReadyWith members tale → Shown tale)
+
+-- a device was formatted, which had no region
+pub record IsFresh (size : ℕ) (old : Device) (new : RegionView) : Type 0 where
+  pub sound : IsSound new
+  pub fresh : standing_of new ≡ fresh_map size
+  pub number : new.kept.number ≡ 0
+  pub faults : new.pair.device.faults ≡ old.faults
+  pub no_region : IfSome old.now (λ lines. ¬ HasRegion lines)
+  pub holds : Holds (fresh_map size) new.pair.device
+  pub safe : WhereReadyWith (None ∷ []) old (λ tale. IsLeftSafe tale new.pair.device (fresh_map size) [] (Some (fresh_map size) ∷ []))
+
+-- a call of the device failed while it was formatted
+pub record FailsToFormat (size : ℕ) (old new : Device) : Type 0 where
+  pub rose : Rose old.faults new.faults
+  pub safe : WhereReadyWith (None ∷ []) old (λ tale. IsLeftSafe tale new (fresh_map size) [] (None ∷ []) ⊎ HasAppeared tale new (map_header size))
+
+-- why a device wasn't formatted, and what became of it
+abbrev pub IsRefusal : ℕ → Device → Device → Why → Type 0
+IsRefusal size old new Memory = new ≡ old
+IsRefusal size old new (DeviceWhy fault) = FailsToFormat size old new
+IsRefusal size old new Taken = (new ≡ old) × IfSome old.now HasRegion
+IsRefusal size old new NoRegion = ⊥
+IsRefusal size old new (Damaged line) = ⊥
+
+-- a request was served in a round of its own, and the round is sealed
+pub record IsServed (ask : Ask) (reply : Reply) (old new : RegionView) : Type 0 where
+  pub sound : IsSound new
+  pub number : new.kept.number ≡ ask.number
+  pub reply_is : reply ≡ reply_of (standing_of old).state ask.op
+  pub legal : IsLegalRound (standing_of old) (served (standing_of old) ask)
+  pub after : standing_of new ≡ after_round (standing_of old) (served (standing_of old) ask)
+  pub faults : new.pair.device.faults ≡ old.pair.device.faults
+  pub holds : Holds (standing_of old) old.pair.device → Holds (standing_of new) new.pair.device
+  pub safe : WhereReadyWith (Some (standing_of old) ∷ []) old.pair.device (λ tale. IsLeftSafe tale new.pair.device (standing_of old) (sealed_round (served (standing_of old) ask) ∷ []) (Some (standing_of new) ∷ []))
+
+-- a call of the device failed while a request was served: the round is not there, or in doubt
+pub record FailsToServe (ask : Ask) (old new : RegionView) : Type 0 where
+  pub rose : Rose old.pair.device.faults new.pair.device.faults
+  pub legal : IsLegalRound (standing_of old) (served (standing_of old) ask)
+  pub safe : WhereReadyWith (Some (standing_of old) ∷ []) old.pair.device (λ tale. IsLeftSafe tale new.pair.device (standing_of old) [] (Some (standing_of old) ∷ []) ⊎ IsInDoubt tale new.pair.device (standing_of old) (served (standing_of old) ask))
+
+-- behind several calls: these rounds are in the log, and all of them are sealed
+pub record IsSealedBehind (tale : Tale) (new : Device) (s : Standing) (rounds : History) : Type 0 where
+  pub history : List LoggedRound
+  pub left : IsLeftSafe tale new s history (Some (state_after s rounds) ∷ [])
+  pub sealed : AreSealed history
+  pub rounds_are : rounds_in history ≡ rounds
+
+-- the calls stopped at a failing one: the log has a legal history of the first of these requests, and the device is ready
+pub record IsStoppedBehind (tale : Tale) (new : Device) (s : Standing) (asks : List Ask) : Type 0 where
+  pub history : List LoggedRound
+  pub members : List (Option Standing)
+  pub left : IsLeftSafe tale new s history members
+  pub legal : IsLegal s (rounds_in history)
+  pub front : List Ask
+  pub rest : List Ask
+  pub front_is : asks ≡ front ++ rest
+  pub serves : ServesEach front (rounds_in history)
+
+-- all requests were served
+pub record AreServed (asks : List Ask) (history : History) (old new : RegionView) : Type 0 where
+  pub legal : IsLegal (standing_of old) history
+  pub after : standing_of new ≡ state_after (standing_of old) history
+  pub faults : new.pair.device.faults ≡ old.pair.device.faults
+  pub holds : Holds (standing_of old) old.pair.device → Holds (standing_of new) new.pair.device
+  pub safe : WhereReadyWith (Some (standing_of old) ∷ []) old.pair.device (λ tale. IsSealedBehind tale new.pair.device (standing_of old) history)
+
+-- a call of the device failed meanwhile; the device still holds a region
+pub record FailsToServeAll (asks : List Ask) (old new : RegionView) : Type 0 where
+  pub rose : Rose old.pair.device.faults new.pair.device.faults
+  pub safe : WhereReadyWith (Some (standing_of old) ∷ []) old.pair.device (λ tale. IsStoppedBehind tale new.pair.device (standing_of old) asks × IfSome new.pair.device.told (λ end. HasRegion (held end)))
