@@ -5,7 +5,7 @@ use Rattle.pb_object.specs.declared.request.Ask.{Ask}
 use Rattle.pb_object.specs.declared.request.Reply.{Reply}
 use Rattle.pb_object.specs.History.{Round, History, after_round, state_after, IsLegalRound, IsLegal}
 use Rattle.pb_object.specs.Standing.{Standing}
-use Rattle.pb_broker.specs.History.{ServesEach, history_with}
+use Rattle.pb_broker.specs.History.{ServesEach, history_with, served, run_of}
 use Rattle.pb_broker.specs.Outcome.{alone, answered}
 use Rattle.pb_broker.specs.Script.{IsRequest, AreRequests}
 
@@ -82,3 +82,15 @@ ServesEach-append [] more [] rest left right = right
 ServesEach-append [] more (round ∷ history) rest left right = absurd left
 ServesEach-append (ask ∷ asks) more [] rest left right = absurd left
 ServesEach-append (ask ∷ asks) more (round ∷ history) rest left right = (left.0, ServesEach-append asks more history rest left.1 right)
+
+-- a legal history of some requests is the run of them
+pub legal_run : (s : Standing) (asks : List Ask) (history : History) → ServesEach asks history → IsLegal s history → history ≡ run_of s asks
+unfolding run_of
+legal_run s [] [] each legal = refl
+legal_run s [] (round ∷ history) each legal = absurd each
+legal_run s (ask ∷ asks) [] each legal = absurd each
+legal_run s (ask ∷ asks) (round ∷ history) each legal =
+    let own : IsLegalRound s (alone (answered ask each.0.0)) = subst (IsLegalRound s) each.0.1 legal.0 in
+    let here : round ≡ served s ask = each.0.1 ∙ ap (λ (reply : Reply). alone (answered ask reply)) own.legal.0.reply in
+    let rest : history ≡ run_of (after_round s (served s ask)) asks = legal_run (after_round s round) asks history each.1 legal.1 ∙ ap (λ (r : Round). run_of (after_round s r) asks) here in
+    λ i. here i ∷ rest i

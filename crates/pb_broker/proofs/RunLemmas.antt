@@ -19,7 +19,7 @@ use Rattle.pb_broker.specs.declared.requests.Requests.{Requests}
 use Rattle.pb_broker.specs.History.{ServesEach, history_with}
 use Rattle.pb_broker.specs.Region.{RegionView, map_header}
 use Rattle.pb_broker.specs.Run.{IsRunOf, IsStopped, StopsRun, stop_for}
-use Rattle.pb_broker.specs.Serving.{fresh_map, Holds, WhereReadyWith, IsFresh, IsRefusal, IsSealedBehind, IsStoppedBehind, AreServed, FailsToServeAll}
+use Rattle.pb_broker.specs.Serving.{fresh_map, Holds, WhereReadyWith, IsFresh, IsRefusal, IsSealedBehind, AreFound, IsCaught, AreServed, FailsToServeAll}
 use Rattle.pb_broker.proofs.Behind.{shown, behind_then, sealed_behind}
 use Rattle.pb_broker.proofs.ServeLemmas.{told_step}
 
@@ -61,10 +61,10 @@ run_stops script before first last fresh fails = (
     asks = script.asks.items
 
     Shown : Tale → Type 0
-    Shown tale = IsStoppedBehind tale last.pair.device start asks × IfSome last.pair.device.told (λ end. HasRegion (held end))
+    Shown tale = IsCaught tale last.pair.device start asks
 
     of_fresh : WhereReadyWith (Some start ∷ []) first.pair.device Shown
-    of_fresh = subst (λ (s : Standing). WhereReadyWith (Some s ∷ []) first.pair.device (λ tale. IsStoppedBehind tale last.pair.device s asks × IfSome last.pair.device.told (λ end. HasRegion (held end)))) fresh.fresh fails.safe
+    of_fresh = subst (λ (s : Standing). WhereReadyWith (Some s ∷ []) first.pair.device (λ tale. IsCaught tale last.pair.device s asks)) fresh.fresh fails.safe
 
     never_nothing : (told : Option Tale) → IfSome told (λ end. HasRegion (held end)) → IfSome told (λ end. ¬ HasRegion (held end) → IsReadyWith (None ∷ []) end)
     never_nothing None region = tt
@@ -73,7 +73,7 @@ run_stops script before first last fresh fails = (
     stopped : (tale : Tale) → IsSealedBehind tale first.pair.device start [] → IsStopped tale last.pair.device script.size asks
     stopped tale behind =
         let last_part = shown Shown (Some start ∷ []) first.pair.device (with_ops behind.left.ops tale) of_fresh behind.left.told behind.left.leaves.ready in
-        let part = last_part.0 in
+        let part = last_part.behind in
         record {
           behind = record {
             history = behind.history ++ part.history;
@@ -85,7 +85,8 @@ run_stops script before first last fresh fails = (
             front_is = part.front_is;
             serves = subst (ServesEach part.front) (sym (rounds behind part.history)) part.serves;
           };
-          nothing = never_nothing last.pair.device.told last_part.1;
+          found = inr (inr last_part.around);
+          nothing = never_nothing last.pair.device.told last_part.region;
         }
       where
         rounds : (behind : IsSealedBehind tale first.pair.device start []) (more : List LoggedRound) → rounds_in (behind.history ++ more) ≡ rounds_in more
@@ -102,8 +103,9 @@ refused_is script before after (DeviceWhy fault) fails = (
     start : Standing
     start = fresh_map script.size
 
-    stop : (tale : Tale) (members : List (Option Standing)) → IsLeftSafe tale after start [] members → IfSome after.told (λ end. ¬ HasRegion (held end) → IsReadyWith (None ∷ []) end) → IsStopped tale after script.size script.asks.items
-    stop tale members left nothing = record {
+    stop : (tale : Tale) (members : List (Option Standing)) → AreFound script.size script.asks.items members → IsLeftSafe tale after start [] members → IfSome after.told (λ end. ¬ HasRegion (held end) → IsReadyWith (None ∷ []) end) → IsStopped tale after script.size script.asks.items
+    stop tale members found left nothing = record {
+      found = found;
       behind = record { history = []; members = members; left = left; legal = tt; front = []; rest = script.asks.items; front_is = refl; serves = tt };
       nothing = nothing;
     }
@@ -114,8 +116,8 @@ refused_is script before after (DeviceWhy fault) fails = (
 
     stopped : (tale : Tale) → IsLeftSafe tale after start [] (None ∷ []) ⊎ HasAppeared tale after (map_header script.size) → IsStopped tale after script.size script.asks.items
     stopped tale (inl left) =
-        stop tale (None ∷ []) left (subst (λ (o : Option Tale). IfSome o (λ end. ¬ HasRegion (held end) → IsReadyWith (None ∷ []) end)) (sym left.told) (λ nothing. left.leaves.ready))
-    stopped tale (inr there) = stop tale (None ∷ Some start ∷ []) there.left (appeared after.told there.holds)
+        stop tale (None ∷ []) (inl refl) left (subst (λ (o : Option Tale). IfSome o (λ end. ¬ HasRegion (held end) → IsReadyWith (None ∷ []) end)) (sym left.told) (λ nothing. left.leaves.ready))
+    stopped tale (inr there) = stop tale (None ∷ Some start ∷ []) (inr (inl refl)) there.left (appeared after.told there.holds)
 refused_is script before after TakenWhy refusal = refusal
 refused_is script before after NoRegion never = absurd never
 refused_is script before after (Damaged line) never = absurd never

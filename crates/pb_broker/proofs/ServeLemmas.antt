@@ -8,17 +8,16 @@ use Rattle.pb_object.specs.declared.request.Reply.{Reply}
 use Rattle.pb_object.specs.History.{Round, History, IsLegalRound, IsLegal, after_round, state_after}
 use Rattle.pb_object.specs.Object.{reply_of}
 use Rattle.pb_object.specs.Standing.{Standing}
-use Rattle.pb_layout.specs.Damage.{HasRegion}
 use Rattle.pb_layout_laws.specs.Exits.{sealed_round}
-use Rattle.pb_pair.specs.Safe.{held, IsReadyWith, IsLeftSafe, IsInDoubt}
+use Rattle.pb_pair.specs.Safe.{IsReadyWith, IsLeftSafe, IsInDoubt}
 use Rattle.pb_pair.proofs.Safe.{where_told}
 use Rattle.pb_broker.specs.History.{ServesEach, history_with, served}
 use Rattle.pb_broker.specs.Outcome.{alone, answered}
 use Rattle.pb_broker.specs.Region.{RegionView, standing_of, IsSound}
 use Rattle.pb_broker.specs.Script.{AreRequests}
-use Rattle.pb_broker.specs.Serving.{Holds, WhereReadyWith, IsServed, FailsToServe, IsSealedBehind, IsStoppedBehind, AreServed, FailsToServeAll}
+use Rattle.pb_broker.specs.Serving.{Holds, WhereReadyWith, IsServed, FailsToServe, IsSealedBehind, AreServed, IsCaught, FailsToServeAll}
 use Rattle.pb_broker.proofs.Behind.{nothing_done, sealed_then, stopped_then}
-use Rattle.pb_broker.proofs.Histories.{state_after-push, IsLegal-push, history_with-nil, history_more, AreRequests-at, ServesEach-history, ServesEach-append}
+use Rattle.pb_broker.proofs.Histories.{state_after-push, IsLegal-push, history_with-nil, history_more, AreRequests-at, ServesEach-history, ServesEach-append, legal_run}
 
 -- the first so many requests were served
 abbrev pub history_to : List Ask → List Reply → ℕ → History
@@ -89,7 +88,7 @@ serving_fails asks replies place d old now new inside serving fails =
     let one : ServesEach (ask ∷ []) (round ∷ []) = ((reply, refl), tt) in
     record {
       rose = subst (λ (n : ℕ). Rose n new.pair.device.faults) serving.faults fails.rose;
-      safe = told_step (λ tale. IsReadyWith (Some s ∷ []) tale → IsSealedBehind tale now.pair.device s history) (λ tale. IsReadyWith (Some s ∷ []) tale → IsStoppedBehind tale new.pair.device s asks × IfSome new.pair.device.told (λ end. HasRegion (held end))) old.pair.device.told serving.safe (λ tale told behind ready. stopped_then tale now.pair.device new.pair.device s asks (take place asks) (drop (place + 1) asks) ask history round (behind ready) whole serves (ServesEach-append (take place asks) (ask ∷ []) history (round ∷ []) serves one) serving.legal (subst (λ (t : Standing). IsLegalRound t round) serving.after fails.legal) (subst (λ (t : Standing). WhereReadyWith (Some t ∷ []) now.pair.device (λ u. IsLeftSafe u new.pair.device t [] (Some t ∷ []) ⊎ IsInDoubt u new.pair.device t round)) serving.after fails.safe));
+      safe = told_step (λ tale. IsReadyWith (Some s ∷ []) tale → IsSealedBehind tale now.pair.device s history) (λ tale. IsReadyWith (Some s ∷ []) tale → IsCaught tale new.pair.device s asks) old.pair.device.told serving.safe (λ tale told behind ready. stopped_then tale now.pair.device new.pair.device s asks (take place asks) (drop (place + 1) asks) ask history round (behind ready) whole (legal_run s (take place asks) history serves serving.legal) (ap (λ (t : Standing). served t ask) serving.after) serves (ServesEach-append (take place asks) (ask ∷ []) history (round ∷ []) serves one) serving.legal (subst (λ (t : Standing). IsLegalRound t round) serving.after fails.legal) (subst (λ (t : Standing). WhereReadyWith (Some t ∷ []) now.pair.device (λ u. IsLeftSafe u new.pair.device t [] (Some t ∷ []) ⊎ IsInDoubt u new.pair.device t round)) serving.after fails.safe));
     }
 
 pub serving_all : (asks : List Ask) (replies : List Reply) (place : ℕ) (old now : RegionView) → place ≡ length asks → IsServing asks replies place old now → AreServed asks (history_with asks replies) old now

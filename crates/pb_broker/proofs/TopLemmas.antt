@@ -12,7 +12,7 @@ use Rattle.pb_io.specs.declared.sink.SinkFault.{SinkFault}
 use Rattle.pb_io.specs.SinkBytes.{AppendsSome}
 use Rattle.pb_object.specs.declared.request.Ask.{Ask}
 use Rattle.pb_object.specs.declared.request.Reply.{Reply}
-use Rattle.pb_object.specs.History.{Round, History, IsLegalRound, IsLegal, after_round, state_after}
+use Rattle.pb_object.specs.History.{History, IsLegal, state_after}
 use Rattle.pb_object.specs.Standing.{Standing}
 use Rattle.pb_layout.specs.Covers.{Covers}
 use Rattle.pb_layout.specs.Damage.{HasRegion}
@@ -28,14 +28,13 @@ use Rattle.pb_broker.specs.declared.requests.Requests.{Requests}
 use Rattle.pb_broker.specs.declared.status.TheConstants.{DONE, OUT_OF_MEMORY, USAGE, REFUSED, READ_FAULT, WRITE_FAULT, DEVICE_FAULT, TAKEN}
 use Rattle.pb_broker.specs.declared.stop.Stop.{Stop}
 use Rattle.pb_broker.specs.declared.stop.Stop.TheVariants.{Memory, Usage, ReadFault, Long, Line, DeviceFault, Taken}
-use Rattle.pb_broker.specs.History.{ServesEach, history_with, history_text, served, run_of}
-use Rattle.pb_broker.specs.Outcome.{alone, answered}
+use Rattle.pb_broker.specs.History.{ServesEach, history_with, history_text, run_of}
 use Rattle.pb_broker.specs.Output.{usage_text, long_text, line_text, taken_text}
 use Rattle.pb_broker.specs.Run.{IsCommand, IsRunOf, IsStopped, Ran, Stops, Printed, Prints, served_text}
 use Rattle.pb_broker.specs.Serving.{fresh_map, Holds, WhereReadyWith, IsSealedBehind}
 use Rattle.pb_broker.specs.Top.{Call, Output, Wrote, WroteSome, WroteNothing, WhereReady, told_history, IsCoveredCall, IsSafeCall, IsDurable, IsInterrupted, IsRun, IsSameDevice, SaysUsage, SaysRefusal, SaysTaken, SaysRun, SaysSome, HasFault, IsAnswered}
 use Rattle.pb_broker.specs.Words.{IsFreshMap}
-use Rattle.pb_broker.proofs.Histories.{ServesEach-history}
+use Rattle.pb_broker.proofs.Histories.{ServesEach-history, legal_run}
 
 -- The words and the history
 
@@ -47,18 +46,6 @@ one_size first second =
     let size_a = first.size_is in
     let size_b = second.size_is in
     cc
-
--- a legal history of some requests is the run of them
-pub legal_run : (s : Standing) (asks : List Ask) (history : History) → ServesEach asks history → IsLegal s history → history ≡ run_of s asks
-unfolding run_of
-legal_run s [] [] each legal = refl
-legal_run s [] (round ∷ history) each legal = absurd each
-legal_run s (ask ∷ asks) [] each legal = absurd each
-legal_run s (ask ∷ asks) (round ∷ history) each legal =
-    let own : IsLegalRound s (alone (answered ask each.0.0)) = subst (IsLegalRound s) each.0.1 legal.0 in
-    let here : round ≡ served s ask = each.0.1 ∙ ap (λ (reply : Reply). alone (answered ask reply)) own.legal.0.reply in
-    let rest : history ≡ run_of (after_round s (served s ask)) asks = legal_run (after_round s round) asks history each.1 legal.1 ∙ ap (λ (r : Round). run_of (after_round s r) asks) here in
-    λ i. here i ∷ rest i
 
 -- What a crash leaves
 
@@ -162,9 +149,9 @@ module _ (call : Call) (size : ℕ) (asks : List Ask) (stopped : WhereReadyWith 
       let left = stop.behind.left in
       (with_ops left.ops tale, left.told, safe_call size tale call.after stop.behind.history stop.behind.members left stop.behind.legal (subst (λ (told : Option Tale). IfSome told (λ end. ¬ HasRegion (held end) → IsReadyWith (None ∷ []) end)) left.told stop.nothing)))
 
-  fault_interrupted : WhereReady call (IsInterrupted asks)
+  fault_interrupted : WhereReady call (IsInterrupted size asks)
   fault_interrupted =
-      where_ready call (λ tale. IsStopped tale call.after size asks) (IsInterrupted asks) stopped (λ tale is ready stop.
+      where_ready call (λ tale. IsStopped tale call.after size asks) (IsInterrupted size asks) stopped (λ tale is ready stop.
       let left = stop.behind.left in (
         with_ops left.ops tale,
         left.told,
@@ -173,6 +160,9 @@ module _ (call : Call) (size : ℕ) (asks : List Ask) (stopped : WhereReadyWith 
           rest = stop.behind.rest;
           front_is = stop.behind.front_is;
           each = subst (λ (h : List LoggedRound). ServesEach stop.behind.front (rounds_in h)) left.leaves.covers.told stop.behind.serves;
+          members = stop.behind.members;
+          found = stop.found;
+          ready = left.leaves.ready;
         },
       ))
 

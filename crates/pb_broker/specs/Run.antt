@@ -18,7 +18,7 @@ use Rattle.pb_broker.specs.declared.stop.Stop.TheVariants.{Memory, Usage, ReadFa
 use Rattle.pb_broker.specs.History.{history_with, history_text}
 use Rattle.pb_broker.specs.Output.{usage_text, long_text, line_text, taken_text}
 use Rattle.pb_broker.specs.Script.{AreRequests}
-use Rattle.pb_broker.specs.Serving.{fresh_map, Holds, WhereReadyWith, IsSealedBehind, IsStoppedBehind}
+use Rattle.pb_broker.specs.Serving.{fresh_map, Holds, WhereReadyWith, IsSealedBehind, IsStoppedBehind, AreFound}
 use Rattle.pb_broker.specs.Top.{Reading, Call, Output, Wrote, WroteSome, WroteNothing, IsUsage, IsLong, IsRefusedAt, IsSameDevice, IsScripted}
 use Rattle.pb_broker.specs.Words.{IsFreshMap}
 
@@ -72,6 +72,7 @@ pub record HasRun (script : Requests) (before after : Device) (served : Requests
 -- a call of the device failed; where the device then holds no region, it is ready with none alone
 pub record IsStopped (tale : Tale) (after : Device) (size : ℕ) (asks : List Ask) : Type 0 where
   pub behind : IsStoppedBehind tale after (fresh_map size) asks
+  pub found : AreFound size asks behind.members
   pub nothing : IfSome after.told (λ end. ¬ HasRegion (held end) → IsReadyWith (None ∷ []) end)
 
 -- why a run stops on the device, and what stands then

@@ -15,7 +15,7 @@ use Rattle.pb_layout_laws.specs.Exits.{sealed_round}
 use Rattle.pb_pair.specs.declared.why.Why.{Why}
 use Rattle.pb_pair.specs.declared.why.Why.TheVariants.{Memory, Device as DeviceWhy, Taken, NoRegion, Damaged}
 use Rattle.pb_pair.specs.Safe.{held, IsReadyWith, IsLeftSafe, HasAppeared, IsInDoubt}
-use Rattle.pb_broker.specs.History.{ServesEach, served}
+use Rattle.pb_broker.specs.History.{ServesEach, served, run_of}
 use Rattle.pb_broker.specs.Region.{RegionView, map_header, standing_of, IsSound}
 
 -- the standing of a fresh map of one client
@@ -88,6 +88,28 @@ pub record IsStoppedBehind (tale : Tale) (new : Device) (s : Standing) (asks : L
   pub front_is : asks ≡ front ++ rest
   pub serves : ServesEach front (rounds_in history)
 
+-- the state behind the first of these requests, alone or beside the state behind one more
+abbrev pub behind_first : Standing → List Ask → Standing
+behind_first s front = state_after s (run_of s front)
+
+pub record AreAround (s : Standing) (asks : List Ask) (members : List (Option Standing)) : Type 0 where
+  pub front : List Ask
+  pub rest : List Ask
+  pub front_is : asks ≡ front ++ rest
+  pub are : (members ≡ Some (behind_first s front) ∷ [])
+      ⊎ ((ask : Ask) × (more : List Ask) × (rest ≡ ask ∷ more) × (members ≡ Some (behind_first s front) ∷ Some (after_round (behind_first s front) (served (behind_first s front) ask)) ∷ []))
+
+-- what a device may be found with behind a fault: no region, alone or beside the fresh map; or a state behind the first requests, alone or
+-- beside the state behind one more
+abbrev pub AreFound : ℕ → List Ask → List (Option Standing) → Type 0
+AreFound size asks members = (members ≡ None ∷ []) ⊎ ((members ≡ None ∷ Some (fresh_map size) ∷ []) ⊎ AreAround (fresh_map size) asks members)
+
+-- what a run that stopped leaves on the device: a region that may be found in the states around the request that failed
+pub record IsCaught (tale : Tale) (new : Device) (s : Standing) (asks : List Ask) : Type 0 where
+  pub behind : IsStoppedBehind tale new s asks
+  pub around : AreAround s asks behind.members
+  pub region : IfSome new.told (λ end. HasRegion (held end))
+
 -- all requests were served
 pub record AreServed (asks : List Ask) (history : History) (old new : RegionView) : Type 0 where
   pub legal : IsLegal (standing_of old) history
@@ -96,7 +118,7 @@ pub record AreServed (asks : List Ask) (history : History) (old new : RegionView
   pub holds : Holds (standing_of old) old.pair.device → Holds (standing_of new) new.pair.device
   pub safe : WhereReadyWith (Some (standing_of old) ∷ []) old.pair.device (λ tale. IsSealedBehind tale new.pair.device (standing_of old) history)
 
--- a call of the device failed meanwhile; the device still holds a region
+-- a call of the device failed meanwhile
 pub record FailsToServeAll (asks : List Ask) (old new : RegionView) : Type 0 where
   pub rose : Rose old.pair.device.faults new.pair.device.faults
-  pub safe : WhereReadyWith (Some (standing_of old) ∷ []) old.pair.device (λ tale. IsStoppedBehind tale new.pair.device (standing_of old) asks × IfSome new.pair.device.told (λ end. HasRegion (held end)))
+  pub safe : WhereReadyWith (Some (standing_of old) ∷ []) old.pair.device (λ tale. IsCaught tale new.pair.device (standing_of old) asks)

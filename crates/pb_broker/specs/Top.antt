@@ -19,7 +19,7 @@ use Rattle.pb_broker.specs.declared.status.TheConstants.{DONE, OUT_OF_MEMORY, US
 use Rattle.pb_broker.specs.History.{ServesEach, run_of, history_text}
 use Rattle.pb_broker.specs.Output.{usage_text, long_text, line_text, taken_text}
 use Rattle.pb_broker.specs.Script.{IsScript, IsRefused}
-use Rattle.pb_broker.specs.Serving.{fresh_map, Holds}
+use Rattle.pb_broker.specs.Serving.{fresh_map, Holds, AreFound}
 use Rattle.pb_broker.specs.Words.{IsFreshMap}
 
 -- what a call reads: its words; the source's bytes before it and those that are left, where they are told; and how often the source
@@ -101,12 +101,16 @@ pub record IsDurable (size : ℕ) (asks : List Ask) (text : List ℕ) (before af
   pub text_is : text ≡ history_text (told_history before after)
   pub ready : IsReady after.base after.log (Some (state_after (fresh_map size) (told_history before after)) ∷ [])
 
--- after a fault: it has a round for each of the first requests
-pub record IsInterrupted (asks : List Ask) (before after : Tale) : Type 0 where
+-- after a fault: it has a round for each of the first requests, and the device may be found with no region, with the state behind the
+-- first requests, or, in doubt, also with the state behind one more
+pub record IsInterrupted (size : ℕ) (asks : List Ask) (before after : Tale) : Type 0 where
   pub front : List Ask
   pub rest : List Ask
   pub front_is : asks ≡ front ++ rest
   pub each : ServesEach front (told_history before after)
+  pub members : List (Option Standing)
+  pub found : AreFound size asks members
+  pub ready : IsReady after.base after.log members
 
 -- the words are no command
 abbrev pub IsUsage : Reading → Type 0
@@ -163,7 +167,7 @@ pub record HasFault (call : Call) : Type 0 where
   pub size : ℕ
   pub asks : List Ask
   pub scripted : IsScripted call.read size asks
-  pub interrupted : WhereReady call (IsInterrupted asks)
+  pub interrupted : WhereReady call (IsInterrupted size asks)
 
 -- what went out is a front of the text that the call had to say
 abbrev pub SaysSome : Call → Output → Type 0
