@@ -124,7 +124,7 @@ fresh_is size old pair kept registers lines is formatted safely whole = record {
 -- what formatting refused
 pub refusal_is : (size : ℕ) (kept : Kept) (registers : List Register) (lines : List Line) (old new : Device) (why : Why) → IsFirstRecord size kept registers lines → IsFormatRefusal (map_header size) lines [] old new why → FailsToFormatSafely (map_header size) lines [] old new → IsRefusal size old new why
 refusal_is size kept registers lines old new Memory is refusal safely = refusal
-refusal_is size kept registers lines old new (DeviceWhy fault) is refusal safely = record { rose = refusal.stops.rose; safe = safely (first_are_empty size kept registers lines is) }
+refusal_is size kept registers lines old new (DeviceWhy fault) is refusal safely = record { rose = refusal.0.stops.rose; kept = refusal.1; safe = safely (first_are_empty size kept registers lines is) }
 refusal_is size kept registers lines old new Taken is refusal safely = refusal
 refusal_is size kept registers lines old new NoRegion is refusal safely = refusal
 refusal_is size kept registers lines old new (Damaged line) is refusal safely = refusal

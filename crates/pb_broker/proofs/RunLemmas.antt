@@ -14,6 +14,7 @@ use Rattle.pb_layout.proofs.OneAnswer.{region_from}
 use Rattle.pb_pair.specs.declared.why.Why.{Why}
 use Rattle.pb_pair.specs.declared.why.Why.TheVariants.{Memory as MemoryWhy, Device as DeviceWhy, Taken as TakenWhy, NoRegion, Damaged}
 use Rattle.pb_pair.specs.Calls.{with_ops}
+use Rattle.pb_pair.specs.Format.{HadNoRegion}
 use Rattle.pb_pair.specs.Safe.{held, IsReadyWith, IsLeftSafe, HasAppeared}
 use Rattle.pb_broker.specs.declared.requests.Requests.{Requests}
 use Rattle.pb_broker.specs.History.{ServesEach, history_with}
@@ -48,9 +49,10 @@ run_is size asks replies before first last places fresh served =
         sealed_behind tale first.pair.device last.pair.device (fresh_map size) [] (history_with asks replies) behind (shown (λ t. IsSealedBehind t last.pair.device (fresh_map size) (history_with asks replies)) (Some (fresh_map size) ∷ []) first.pair.device (with_ops behind.left.ops tale) of_fresh behind.left.told behind.left.leaves.ready)
 
 -- a script during which a call of the device failed, behind formatting
-pub run_stops : (script : Requests) (before : Device) (first last : RegionView) → IsFresh script.size before first → FailsToServeAll script.asks.items first last → Rose before.faults last.pair.device.faults × WhereReadyWith (None ∷ []) before (λ tale. IsStopped tale last.pair.device script.size script.asks.items)
+pub run_stops : (script : Requests) (before : Device) (first last : RegionView) → IsFresh script.size before first → FailsToServeAll script.asks.items first last → Rose before.faults last.pair.device.faults × HadNoRegion before last.pair.device × WhereReadyWith (None ∷ []) before (λ tale. IsStopped tale last.pair.device script.size script.asks.items)
 run_stops script before first last fresh fails = (
   subst (λ (n : ℕ). Rose n last.pair.device.faults) fresh.faults fails.rose,
+  inr fresh.no_region,
   told_step (λ tale. IsReadyWith (None ∷ []) tale → IsLeftSafe tale first.pair.device start [] (Some start ∷ [])) (λ tale. IsReadyWith (None ∷ []) tale → IsStopped tale last.pair.device script.size asks) before.told fresh.safe (λ tale told left ready. stopped tale (formatted_behind script.size before first tale (left ready))),
 )
   where
@@ -97,6 +99,7 @@ pub refused_is : (script : Requests) (before after : Device) (why : Why) → IsR
 refused_is script before after MemoryWhy same = same
 refused_is script before after (DeviceWhy fault) fails = (
   fails.rose,
+  fails.kept,
   told_step (λ tale. IsReadyWith (None ∷ []) tale → IsLeftSafe tale after (fresh_map script.size) [] (None ∷ []) ⊎ HasAppeared tale after (map_header script.size)) (λ tale. IsReadyWith (None ∷ []) tale → IsStopped tale after script.size script.asks.items) before.told fails.safe (λ tale told left ready. stopped tale (left ready)),
 )
   where

@@ -1,5 +1,5 @@
 -- A region in hand behind a request.
-use Rattle.std.proofs.Common.{◌≡◌, ◌⊎◌, ℕ, ◌+◌, ◌<◌, List, [], ◌∷◌, Some, length, take, drop, ◌++◌, slice_index, slice_set, refl, sym, ap, subst, ◌∙◌, arith}
+use Rattle.std.proofs.Common.{◌≡◌, ◌⊎◌, ℕ, ◌+◌, ◌<◌, List, [], ◌∷◌, Some, length, take, drop, ◌++◌, slice_index, slice_set, refl, sym, ap, subst, ◌∙◌, arith, inl, inr}
 use Rattle.std.proofs.lemmas.List.Elements.{All-nil, All-head, All-cons}
 use Rattle.std.proofs.lemmas.List.{get_or-set_same}
 use Rattle.pb_pmem.specs.declared.line.Line.{Line}
@@ -27,7 +27,7 @@ use Rattle.pb_layout_laws.specs.Calls.{storing}
 use Rattle.pb_layout_laws.specs.Exits.{sealed_round}
 use Rattle.pb_layout_laws.specs.NextRecord.{HasEntryLine, IsOfOther, IsNextRecord}
 use Rattle.pb_pair.specs.Calls.{behind}
-use Rattle.pb_pair.specs.Safe.{IsLeftSafe, held, IsReadyWith, IsPairOf, IsStoreOf, StoresSafely, FailsToStoreSafely, IsInDoubt}
+use Rattle.pb_pair.specs.Safe.{IsLeftSafe, held, IsReadyWith, IsPairOf, IsStoreOf, StoresSafely, FailsToStoreSafely, IsInDoubt, IsStopped, IsUndecided}
 use Rattle.pb_pair.specs.Store.{IsNext, IsStored}
 use Rattle.pb_pair.specs.View.{round_of}
 use Rattle.pb_broker.specs.History.{served}
@@ -212,9 +212,9 @@ pub fails_is : (ask : Ask) (reply : Reply) (old new : RegionView) (lines : List 
 fails_is ask reply old new lines is rose safely = record {
   rose = rose;
   legal = round_is_legal ask reply old new.registers lines is;
-  safe = if_some_weaker (λ (tale : Tale). (t : Standing) (r : Round) → IsStoreOf old.pair 0 lines t r tale → IsLeftSafe tale new.pair.device t [] (Some t ∷ []) ⊎ IsInDoubt tale new.pair.device t r)
+  safe = if_some_weaker (λ (tale : Tale). (t : Standing) (r : Round) → IsStoreOf old.pair 0 lines t r tale → IsStopped 0 lines old.pair tale new.pair.device t ⊎ IsUndecided 0 lines old.pair tale new.pair.device t r)
       (λ (tale : Tale). IsReadyWith (Some (standing_of old) ∷ []) tale → IsLeftSafe tale new.pair.device (standing_of old) [] (Some (standing_of old) ∷ []) ⊎ IsInDoubt tale new.pair.device (standing_of old) (round_for old ask))
       old.pair.device.told
-      (λ tale shown ready. shown (standing_of old) (round_for old ask) (store_is ask reply old new.registers lines tale is ready))
+      (λ tale shown ready. elim (shown (standing_of old) (round_for old ask) (store_is ask reply old new.registers lines tale is ready)) [ inl stopped ↦ inl stopped.left | inr undecided ↦ inr undecided.doubt ])
       safely;
 }

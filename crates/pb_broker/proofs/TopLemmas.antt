@@ -181,7 +181,7 @@ safe_by call (Err ReadFault) stops whole replay size fresh = same_safe call size
 safe_by call (Err Long) stops whole replay size fresh = same_safe call size whole replay stops.1
 safe_by call (Err (Line line)) stops whole replay size fresh = same_safe call size whole replay stops.1
 safe_by call (Err DeviceFault) stops whole replay size fresh =
-    subst (λ (n : ℕ). WhereReady call (IsSafeCall n)) (one_size stops.scripted.command fresh) (fault_safe call stops.size stops.asks stops.how.1)
+    subst (λ (n : ℕ). WhereReady call (IsSafeCall n)) (one_size stops.scripted.command fresh) (fault_safe call stops.size stops.asks stops.how.2)
 safe_by call (Err Taken) stops whole replay size fresh = same_safe call size whole replay stops.how.0
 
 -- Printing
@@ -408,7 +408,8 @@ has_fault call stops = record {
   size = stops.size;
   asks = stops.asks;
   scripted = stops.scripted;
-  interrupted = fault_interrupted call stops.size stops.asks stops.how.1;
+  kept = stops.how.1;
+  interrupted = fault_interrupted call stops.size stops.asks stops.how.2;
 }
 
 same_faults : (call : Call) → IsSameDevice call → call.after.faults ≡ call.before.faults

@@ -10,6 +10,7 @@ use Rattle.pb_object.specs.History.{IsLegal, state_after}
 use Rattle.pb_layout.specs.Damage.{HasRegion}
 use Rattle.pb_pair.specs.declared.why.Why.{Why}
 use Rattle.pb_pair.specs.declared.why.Why.TheVariants.{Memory as MemoryWhy, Device as DeviceWhy, Taken as TakenWhy, NoRegion, Damaged}
+use Rattle.pb_pair.specs.Format.{HadNoRegion}
 use Rattle.pb_pair.specs.Safe.{held, IsReadyWith}
 use Rattle.pb_broker.specs.declared.requests.Requests.{Requests}
 use Rattle.pb_broker.specs.declared.status.TheConstants.{DONE, OUT_OF_MEMORY, USAGE, REFUSED, READ_FAULT, WRITE_FAULT, DEVICE_FAULT, TAKEN}
@@ -78,7 +79,7 @@ pub record IsStopped (tale : Tale) (after : Device) (size : ℕ) (asks : List As
 -- why a run stops on the device, and what stands then
 abbrev pub StopsRun : Requests → Device → Device → Stop → Type 0
 StopsRun script before after Memory = after ≡ before
-StopsRun script before after DeviceFault = Rose before.faults after.faults × WhereReadyWith (None ∷ []) before (λ tale. IsStopped tale after script.size script.asks.items)
+StopsRun script before after DeviceFault = Rose before.faults after.faults × HadNoRegion before after × WhereReadyWith (None ∷ []) before (λ tale. IsStopped tale after script.size script.asks.items)
 StopsRun script before after Taken = (after ≡ before) × IfSome before.now HasRegion
 StopsRun script before after Usage = ⊥
 StopsRun script before after ReadFault = ⊥
@@ -116,7 +117,7 @@ Stops call Usage = StopsBefore call.read Usage × IsSameDevice call
 Stops call ReadFault = StopsBefore call.read ReadFault × IsSameDevice call
 Stops call Long = StopsBefore call.read Long × IsSameDevice call
 Stops call (Line line) = StopsBefore call.read (Line line) × IsSameDevice call
-Stops call DeviceFault = IsHeldUp call (λ size asks. Rose call.before.faults call.after.faults × WhereReadyWith (None ∷ []) call.before (λ tale. IsStopped tale call.after size asks))
+Stops call DeviceFault = IsHeldUp call (λ size asks. Rose call.before.faults call.after.faults × HadNoRegion call.before call.after × WhereReadyWith (None ∷ []) call.before (λ tale. IsStopped tale call.after size asks))
 Stops call Taken = IsHeldUp call (λ size asks. IsSameDevice call × IfSome call.before.now HasRegion)
 
 -- Printing

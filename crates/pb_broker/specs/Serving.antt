@@ -14,6 +14,7 @@ use Rattle.pb_layout.specs.Represents.{Represents}
 use Rattle.pb_layout_laws.specs.Exits.{sealed_round}
 use Rattle.pb_pair.specs.declared.why.Why.{Why}
 use Rattle.pb_pair.specs.declared.why.Why.TheVariants.{Memory, Device as DeviceWhy, Taken, NoRegion, Damaged}
+use Rattle.pb_pair.specs.Format.{HadNoRegion}
 use Rattle.pb_pair.specs.Safe.{held, IsReadyWith, IsLeftSafe, HasAppeared, IsInDoubt}
 use Rattle.pb_broker.specs.History.{ServesEach, served, run_of}
 use Rattle.pb_broker.specs.Region.{RegionView, map_header, standing_of, IsSound}
@@ -43,6 +44,7 @@ pub record IsFresh (size : ℕ) (old : Device) (new : RegionView) : Type 0 where
 -- a call of the device failed while it was formatted
 pub record FailsToFormat (size : ℕ) (old new : Device) : Type 0 where
   pub rose : Rose old.faults new.faults
+  pub kept : HadNoRegion old new
   pub safe : WhereReadyWith (None ∷ []) old (λ tale. IsLeftSafe tale new (fresh_map size) [] (None ∷ []) ⊎ HasAppeared tale new (map_header size))
 
 -- why a device wasn't formatted, and what became of it

@@ -14,6 +14,7 @@ use Rattle.pb_layout.specs.Damage.{HasRegion}
 use Rattle.pb_layout.specs.LogHistory.{rounds_in, AreSealed, history_of}
 use Rattle.pb_layout.specs.Ready.{IsReady}
 use Rattle.pb_pair.specs.Calls.{with_ops}
+use Rattle.pb_pair.specs.Format.{HadNoRegion}
 use Rattle.pb_broker.specs.declared.source.TheConstants.{SOURCE_LIMIT}
 use Rattle.pb_broker.specs.declared.status.TheConstants.{DONE, OUT_OF_MEMORY, USAGE, REFUSED, READ_FAULT, WRITE_FAULT, DEVICE_FAULT, TAKEN}
 use Rattle.pb_broker.specs.History.{ServesEach, run_of, history_text}
@@ -162,11 +163,12 @@ pub record SaysRun (call : Call) (Text : List ℕ → Type 0) : Type 0 where
   pub durable : WhereReady call (IsDurable size asks text)
   pub written : Text text
 
--- the words are a command, the source is a script, and a call of the device failed
+-- the words are a command, the source is a script, and a call of the device failed; a region that was there is as it was
 pub record HasFault (call : Call) : Type 0 where
   pub size : ℕ
   pub asks : List Ask
   pub scripted : IsScripted call.read size asks
+  pub kept : HadNoRegion call.before call.after
   pub interrupted : WhereReady call (IsInterrupted size asks)
 
 -- what went out is a front of the text that the call had to say

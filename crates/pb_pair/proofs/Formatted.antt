@@ -76,12 +76,12 @@ formatted head first second lines old mid new line given same read other made = 
 }
 
 -- formatting that stopped behind its first read
-pub stopped : (head : Header) (first second : List Line) (old mid end new : Device) (line : Line) (from : ℕ) (why : Why) → AreFirst head first second → Reads 0 line old mid → Stops (IsCutInTwo (preparing head first []) appearing) mid end → new ≡ end → from ≡ old.faults → why ≡ DeviceWhy (record { from = from; to = end.faults }) → IsFormatRefusal head first second old new why
-stopped head first second old mid end new line from why given read stops same count is =
+pub stopped : (head : Header) (first second : List Line) (old mid end new : Device) (line : Line) (from : ℕ) (why : Why) → AreFirst head first second → Reads 0 line old mid → word line 0 ≢ MAGIC → Stops (IsCutInTwo (preparing head first []) appearing) mid end → new ≡ end → from ≡ old.faults → why ≡ DeviceWhy (record { from = from; to = end.faults }) → IsFormatRefusal head first second old new why
+stopped head first second old mid end new line from why given read other stops same count is =
     let cut = IsCutInTwo (preparing head first second) appearing in
     let behind : Stops cut old end =
     subst (λ (device : Device). Stops cut device end) read.same (subst (λ (none : List Line). Stops (IsCutInTwo (preparing head first none) appearing) mid end) (sym given.none) stops) in
     let by : StopsBy (IsFormatCut head first second) (record { from = from; to = end.faults }) old end =
     record { from = count; to = refl; stops = stops_weaker cut (IsFormatCut head first second) old end (λ ops cut. inr cut) behind } in
     subst (λ (w : Why). IsFormatRefusal head first second old new w) (sym is)
-    (subst (λ (device : Device). StopsBy (IsFormatCut head first second) (record { from = from; to = end.faults }) old device) (sym same) by)
+    (subst (λ (device : Device). StopsBy (IsFormatCut head first second) (record { from = from; to = end.faults }) old device) (sym same) by, inr (no_region old.now line other read.content))

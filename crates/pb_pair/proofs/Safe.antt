@@ -1,5 +1,5 @@
 -- What a call did to the log says what a crash leaves behind it.
-use Rattle.std.proofs.Common.{◌≡◌, ℕ, ◌<◌, ◌⊎◌, List, [], ◌∷◌, ◌++◌, length, Option, Some, None, IfSome, option_map, ap, subst, sym, refl, ◌∙◌, inl, inr, arith}
+use Rattle.std.proofs.Common.{◌+◌, ◌≡◌, ℕ, ◌<◌, ◌⊎◌, List, [], ◌∷◌, ◌++◌, length, Option, Some, None, IfSome, option_map, ap, subst, sym, refl, ◌∙◌, inl, inr, arith}
 use Rattle.std.proofs.lemmas.List.{append-nil}
 use Rattle.std.proofs.lemmas.List.Elements.{All-nil}
 use Rattle.pb_layout_laws.proofs.Quiet.{IsQuiet}
@@ -15,17 +15,18 @@ use Rattle.pb_layout.specs.LogHistory.{LoggedRound}
 use Rattle.pb_layout.specs.Represents.{Represents, header_for}
 use Rattle.pb_layout.specs.declared.header.Header.{Header}
 use Rattle.pb_layout.specs.Header.{IsHeader}
-use Rattle.pb_layout_laws.specs.Calls.{IsCutOff, staging, spare_place, storing, preparing, formatting, settling}
+use Rattle.pb_layout_laws.specs.Calls.{IsCutOff, staging, switching, spare_place, storing, preparing, formatting, settling}
 use Rattle.pb_layout_laws.specs.Exits.{Leaves, empty_for, sealed_round}
 use Rattle.pb_layout_laws.proofs.Formatting.{cut_off_while_appearing, makes_a_region}
 use Rattle.pb_layout_laws.proofs.Preparing.{cut_off_while_preparing, quiet_leaves}
 use Rattle.pb_layout_laws.proofs.Settling.{settling_cut_off, settling_leaves_one}
+use Rattle.pb_layout_laws.proofs.Storing.{IsStore}
 use Rattle.pb_layout_laws.proofs.StoreExits.{store_while_staging, store_while_switching, store_whole}
 use Rattle.pb_pair.specs.Calls.{with_ops, Does, Stops}
 use Rattle.pb_pair.specs.declared.why.Why.{Why}
 use Rattle.pb_pair.specs.declared.why.Why.TheVariants.{Memory, Device as DeviceWhy, Taken, NoRegion, Damaged}
 use Rattle.pb_pair.specs.Format.{IsFormatCut, IsFormatRefusal}
-use Rattle.pb_pair.specs.Safe.{IsLeftSafe, held, IsReadyWith, FormatsSafely, HasAppeared, FailsToFormatSafely, IsPairOf, IsStoreOf, StoresSafely, IsInDoubt, FailsToStoreSafely, IsSettlingOf, SettlesSafely, FailsToSettleSafely}
+use Rattle.pb_pair.specs.Safe.{IsLeftSafe, held, IsReadyWith, FormatsSafely, HasAppeared, FailsToFormatSafely, IsPairOf, IsStoreOf, StoresSafely, IsStopped, IsUndecided, FailsToStoreSafely, IsSettlingOf, SettlesSafely, FailsToSettleSafely}
 use Rattle.pb_pair.specs.Store.{IsStoreCut}
 use Rattle.pb_pair.specs.View.{PairView, round_of}
 
@@ -108,24 +109,42 @@ stores_safely side lines old new whole replay few does =
         (λ i. storing (store.of.head i) side (rounds i) lines) ∙ (λ i. storing (header_for s) (sym store.side_is i) (rounds_of s (sym store.side_is i)) lines)
 
 pub stops_storing_safely : (side : ℕ) (lines : List Line) (old : PairView) (new : Device) → IsWhole old.device → IsReplay old.device → side < 2 → Stops (IsStoreCut old.head side (round_of old side) lines) old.device new → FailsToStoreSafely side lines old new
+unfolding left_safe
 stops_storing_safely side lines old new whole replay few stops =
-    where_told (λ tale. (s : Standing) (round : Round) → IsStoreOf old side lines s round tale → IsLeftSafe tale new s [] (Some s ∷ []) ⊎ IsInDoubt tale new s round) old.device.told (λ tale told s round store. go tale told s round store (subst (λ (C : List LogOp → Type 0). C stops.ops) (same_cut s round tale store) stops.cut))
+    where_told (λ tale. (s : Standing) (round : Round) → IsStoreOf old side lines s round tale → IsStopped side lines old tale new s ⊎ IsUndecided side lines old tale new s round) old.device.told (λ tale told s round store. go tale told s round store stops.cut)
   where
-    same_cut : (s : Standing) (round : Round) (tale : Tale) → IsStoreOf old side lines s round tale → IsStoreCut old.head side (round_of old side) lines ≡ IsStoreCut (header_for s) round.side (rounds_of s round.side) lines
-    same_cut s round tale store =
-        let rounds : round_of old side ≡ rounds_of s side = store.of.rounds side few in
-        (λ i. IsStoreCut (store.of.head i) side (rounds i) lines) ∙ (λ i. IsStoreCut (header_for s) (sym store.side_is i) (rounds_of s (sym store.side_is i)) lines)
+    start : (s : Standing) (round : Round) (tale : Tale) → old.device.told ≡ Some tale → IsStoreOf old side lines s round tale → IsStore tale.base tale.log s round lines
+    start s round tale told store =
+        record { long = told_length old.device tale whole replay told; ready = store.ready; next = store.next; cells = store.cells }
 
-    go : (tale : Tale) → old.device.told ≡ Some tale → (s : Standing) (round : Round) → IsStoreOf old side lines s round tale → IsStoreCut (header_for s) round.side (rounds_of s round.side) lines stops.ops → IsLeftSafe tale new s [] (Some s ∷ []) ⊎ IsInDoubt tale new s round
+    same_staging : (s : Standing) (round : Round) (tale : Tale) → IsStoreOf old side lines s round tale → staging (spare_place old.head side (round_of old side)) lines ≡ staging (spare_place (header_for s) round.side (rounds_of s round.side)) lines
+    same_staging s round tale store =
+        let rounds : round_of old side ≡ rounds_of s side = store.of.rounds side few in
+        (λ i. staging (spare_place (store.of.head i) side (rounds i)) lines) ∙ (λ i. staging (spare_place (header_for s) (sym store.side_is i) (rounds_of s (sym store.side_is i))) lines)
+
+    same_switching : (s : Standing) (round : Round) (tale : Tale) → IsStoreOf old side lines s round tale → switching side (round_of old side + 1) ≡ switching round.side (rounds_of s round.side + 1)
+    same_switching s round tale store =
+        let rounds : round_of old side ≡ rounds_of s side = store.of.rounds side few in
+        (λ i. switching side (rounds i + 1)) ∙ (λ i. switching (sym store.side_is i) (rounds_of s (sym store.side_is i) + 1))
+
+    go : (tale : Tale) → old.device.told ≡ Some tale → (s : Standing) (round : Round) → IsStoreOf old side lines s round tale → IsStoreCut old.head side (round_of old side) lines stops.ops → IsStopped side lines old tale new s ⊎ IsUndecided side lines old tale new s round
     go tale told s round store (inl cut) =
-        inl (left_safe old.device new stops.ops told stops.told (store_while_staging (record { long = told_length old.device tale whole replay told; ready = store.ready; next = store.next; cells = store.cells }) stops.ops cut))
+        inl (record {
+          left = left_safe old.device new stops.ops told stops.told (store_while_staging (start s round tale told store) stops.ops (subst (λ (all : List LogOp). IsCutOff all stops.ops) (same_staging s round tale store) cut));
+          before = cut;
+        })
     go tale told s round store (inr behind) =
-        let grown = stops.told ∙ ap (λ (o : List LogOp). option_map (with_ops o) old.device.told) behind.whole in
-        let doubt = store_while_switching (record { long = told_length old.device tale whole replay told; ready = store.ready; next = store.next; cells = store.cells }) behind.tail behind.cut in
+        let all = staging (spare_place (header_for s) round.side (rounds_of s round.side)) lines in
+        let is : stops.ops ≡ all ++ behind.tail = behind.whole ∙ ap (λ (l : List LogOp). l ++ behind.tail) (same_staging s round tale store) in
+        let grown = stops.told ∙ ap (λ (o : List LogOp). option_map (with_ops o) old.device.told) is in
+        let doubt = store_while_switching (start s round tale told store) behind.tail (subst (λ (l : List LogOp). IsCutOff l behind.tail) (same_switching s round tale store) behind.cut) in
         inr (record {
-          history = doubt.history;
-          left = left_safe old.device new (staging (spare_place (header_for s) round.side (rounds_of s round.side)) lines ++ behind.tail) told grown doubt.leaves;
-          rounds = elim doubt.rounds [ inl none ↦ inl none.1 | inr one ↦ inr one.1 ];
+          doubt = record {
+            history = doubt.history;
+            left = left_safe old.device new (all ++ behind.tail) told grown doubt.leaves;
+            rounds = elim doubt.rounds [ inl none ↦ inl none.1 | inr one ↦ inr one.1 ];
+          };
+          behind = record { tail = behind.tail; cut = behind.cut; whole = ap (λ (l : List LogOp). l ++ behind.tail) (sym (same_staging s round tale store)) };
         })
 
 -- Settling
@@ -149,7 +168,7 @@ pub refused_safely : (head : Header) (first second : List Line) (old new : Devic
 refused_safely head first second old new Memory whole replay valid same =
     unformatted_safely head first second old new whole replay (ap (λ (d : Device). d.told) same)
 refused_safely head first second old new (DeviceWhy fault) whole replay valid refusal =
-    stops_formatting_safely head first second old new whole replay valid refusal.stops
+    stops_formatting_safely head first second old new whole replay valid refusal.0.stops
 refused_safely head first second old new Taken whole replay valid same =
     unformatted_safely head first second old new whole replay (ap (λ (d : Device). d.told) same.0)
 refused_safely head first second old new NoRegion whole replay valid never = absurd never

@@ -47,10 +47,14 @@ gifts head = Back 0 3 ∷ Back (record_place head 0 0) (record_length head) ∷ 
 abbrev pub IsFormatCut : Header → List Line → List Line → List LogOp → Type 0
 IsFormatCut head first second ops = (ops ≡ []) ⊎ IsCutInTwo (preparing head first second) appearing ops
 
--- why a device wasn't formatted, and what became of it
+-- nothing was done to a device, or it had no region
+abbrev pub HadNoRegion : Device → Device → Type 0
+HadNoRegion old new = (new.told ≡ old.told) ⊎ IfSome old.now (λ lines. ¬ HasRegion lines)
+
+-- why a device wasn't formatted, and what became of it: nothing was done where there was a region
 abbrev pub IsFormatRefusal : Header → List Line → List Line → Device → Device → Why → Type 0
 IsFormatRefusal head first second old new Memory = new ≡ old
-IsFormatRefusal head first second old new (DeviceWhy fault) = StopsBy (IsFormatCut head first second) fault old new
+IsFormatRefusal head first second old new (DeviceWhy fault) = StopsBy (IsFormatCut head first second) fault old new × HadNoRegion old new
 IsFormatRefusal head first second old new Taken = (new ≡ old) × IfSome old.now HasRegion
 IsFormatRefusal head first second old new NoRegion = ⊥
 IsFormatRefusal head first second old new (Damaged line) = ⊥

@@ -1,5 +1,5 @@
 -- What a crash leaves behind a call of a pair, where the device tells its log.
-use Rattle.std.specs.Prelude.{◌≡◌, ◌⊎◌, ℕ, ◌<◌, List, [], ◌∷◌, Option, Some, None, IfSome}
+use Rattle.std.specs.Prelude.{◌≡◌, ◌⊎◌, ℕ, ◌+◌, ◌<◌, List, [], ◌∷◌, Option, Some, None, IfSome}
 use Rattle.pb_pmem.specs.declared.line.Line.{Line}
 use Rattle.pb_pmem.specs.declared.log.LogOp.{LogOp}
 use Rattle.pb_pmem.specs.Contents.{contents}
@@ -12,7 +12,8 @@ use Rattle.pb_layout.specs.Represents.{Represents, header_for}
 use Rattle.pb_layout.specs.declared.header.Header.{Header}
 use Rattle.pb_layout_laws.specs.Exits.{Leaves, AreEmptyRecords, empty_for, sealed_round}
 use Rattle.pb_layout_laws.specs.NextRecord.{IsNextRecord, HasCells}
-use Rattle.pb_pair.specs.Calls.{with_ops}
+use Rattle.pb_layout_laws.specs.Calls.{IsCutOff, staging, switching, spare_place}
+use Rattle.pb_pair.specs.Calls.{with_ops, IsCutBehind}
 use Rattle.pb_pair.specs.View.{PairView, round_of}
 
 -- behind a call the log is longer by some operations: they are covered from s on by this history, and leave the device ready with these
@@ -69,10 +70,18 @@ pub record IsInDoubt (tale : Tale) (new : Device) (s : Standing) (round : Round)
   pub left : IsLeftSafe tale new s history (Some s ∷ Some (after_round s round) ∷ [])
   pub rounds : (history ≡ []) ⊎ (rounds_in history ≡ round ∷ [])
 
--- or, where the store failed, the state before the round alone, or both while it is in doubt
+-- or, where the store failed: the state before the round alone, where the index word wasn't called; and else both, while it is in doubt
+pub record IsStopped (side : ℕ) (lines : List Line) (old : PairView) (tale : Tale) (new : Device) (s : Standing) : Type 0 where
+  pub left : IsLeftSafe tale new s [] (Some s ∷ [])
+  pub before : IsCutOff (staging (spare_place old.head side (round_of old side)) lines) left.ops
+
+pub record IsUndecided (side : ℕ) (lines : List Line) (old : PairView) (tale : Tale) (new : Device) (s : Standing) (round : Round) : Type 0 where
+  pub doubt : IsInDoubt tale new s round
+  pub behind : IsCutBehind (staging (spare_place old.head side (round_of old side)) lines) (switching side (round_of old side + 1)) doubt.left.ops
+
 abbrev pub FailsToStoreSafely : ℕ → List Line → PairView → Device → Type 0
 FailsToStoreSafely side lines old new =
-    IfSome old.device.told (λ tale. (s : Standing) (round : Round) → IsStoreOf old side lines s round tale → IsLeftSafe tale new s [] (Some s ∷ []) ⊎ IsInDoubt tale new s round)
+    IfSome old.device.told (λ tale. (s : Standing) (round : Round) → IsStoreOf old side lines s round tale → IsStopped side lines old tale new s ⊎ IsUndecided side lines old tale new s round)
 
 -- settling begins on a ready device that holds s
 pub record IsSettlingOf (pair : PairView) (s : Standing) (members : List (Option Standing)) (tale : Tale) : Type 0 where

@@ -2,6 +2,7 @@ use Rattle.std.proofs.Common.{◌≡◌, ◌∙◌, refl, sym, ap, subst, List, 
 use Rattle.pb_pmem.specs.Device.{Device}
 use Rattle.pb_object.specs.declared.request.Ask.{Ask}
 use Rattle.pb_object.specs.declared.request.Reply.{Reply}
+use Rattle.pb_pair.specs.Format.{HadNoRegion}
 use Rattle.pb_broker.specs.History.{history_with}
 use Rattle.pb_broker.specs.Region.{RegionView}
 use Rattle.pb_broker.specs.Run.{IsRunOf, IsStopped, StopsRun}
@@ -41,4 +42,4 @@ returns-in-Err-served g c =
     let made = c.serve_all-served.new.region in
     let last : RegionView = record { pair = made.pair; kept = made.kept; registers = made.map; next = made.next.items } in
     let fails = subst (λ (asks : List Ask). FailsToServeAll asks first last) c.deref.ensures.value c.in-Err-served.ensures.err in
-    subst (λ (device : Device). Rose before.faults device.faults × WhereReadyWith (None ∷ []) before (λ tale. IsStopped tale device script.size script.asks.items)) (sym c.close-device.ensures) (run_stops script before first last c.in-Ok.ensures.ok fails)
+    subst (λ (device : Device). Rose before.faults device.faults × HadNoRegion before device × WhereReadyWith (None ∷ []) before (λ tale. IsStopped tale device script.size script.asks.items)) (sym c.close-device.ensures) (run_stops script before first last c.in-Ok.ensures.ok fails)

@@ -7,7 +7,7 @@ use Rattle.pb_pair.proofs.pair.Pair.format.Goals as goal
 pub returns-then-is_err-2-clause-err : goal.returns-then-is_err-2-clause-err
 returns-then-is_err-2-clause-err g c =
     stopped c.args.head.now c.args.first.now c.args.second.now (g.P.Pmem.seen c.args.device) (g.P.Pmem.seen c.read.new.self) (g.P.Pmem.seen c.write_region.new.device) (g.P.Pmem.seen c.refuse-then-is_err-2.result.device) c.read.new.into c.faults-from.result c.refuse-then-is_err-2.result.why c.requires
-    (if_ok c.read.result (sym c.is_err.ensures.value ∙ c.if-is_err.false) c.read.ensures.ok)
+    (if_ok c.read.result (sym c.is_err.ensures.value ∙ c.if-is_err.false) c.read.ensures.ok) c.if-line-eq-MAGIC.false
     (if_err c.write_region.result (sym c.is_err-2.ensures.value ∙ c.if-is_err-2.true) c.write_region.ensures.err)
     (ap g.P.Pmem.seen c.refuse-then-is_err-2.ensures.device) c.faults-from.ensures c.refuse-then-is_err-2.ensures.why
 
@@ -42,7 +42,7 @@ returns-then-is_err-2-clause-fails_safe g c =
     let whole : IsWhole old = g.met.P.Pmem.is_whole c.args.device in
     let replay : IsReplay old = g.met.P.Pmem.is_replay c.args.device in
     let stops = stopped c.args.head.now c.args.first.now c.args.second.now old (g.P.Pmem.seen c.read.new.self) (g.P.Pmem.seen c.write_region.new.device) new c.read.new.into c.faults-from.result c.refuse-then-is_err-2.result.why c.requires
-    (if_ok c.read.result (sym c.is_err.ensures.value ∙ c.if-is_err.false) c.read.ensures.ok)
+    (if_ok c.read.result (sym c.is_err.ensures.value ∙ c.if-is_err.false) c.read.ensures.ok) c.if-line-eq-MAGIC.false
     (if_err c.write_region.result (sym c.is_err-2.ensures.value ∙ c.if-is_err-2.true) c.write_region.ensures.err)
     (ap g.P.Pmem.seen c.refuse-then-is_err-2.ensures.device) c.faults-from.ensures c.refuse-then-is_err-2.ensures.why in
     refused_safely c.args.head.now c.args.first.now c.args.second.now old new c.refuse-then-is_err-2.result.why whole replay c.requires.valid stops
