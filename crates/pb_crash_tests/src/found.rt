@@ -27,7 +27,7 @@ pub enum Found {
 }
 
 /// The worked region: a map of four registers for one client.
-const HEAD: Header = Header {
+pub const HEAD: Header = Header {
     kind: Kind::Map,
     clients: 1,
     size: 4,
