@@ -11,22 +11,40 @@ use pb_object::{Ask, Kept, Kind, Object, Reply};
 use pb_pair::{Pair, Refused, Why};
 use pb_pmem::{DeviceFault, Line, Pmem};
 use std::alloc::Global;
+use std::marker::Model;
 
 /// A region of one map and one client: the pair that keeps its records, and what the record in use stands for.
+///
+/// A contract sees it as a `RegionView`.
 #[derive(Drop)]
 pub struct Region<P: Pmem> {
-    pub pair: Pair<P>,
-    /// The client's last request, and its reply.
-    pub kept: Kept,
-    pub map: RegMap,
-    /// The lines of the next record.
-    pub next: Vec<Line>,
+    pair: Pair<P>,
+    // The client's last request, and its reply.
+    kept: Kept,
+    map: RegMap,
+    // The lines of the next record.
+    next: Vec<Line>,
+}
+
+impl<P: Pmem> Model for Region<P> {
+    ghost use Rattle.pb_broker.specs.Region.{RegionView};
+
+    ghost Value = { RegionView };
+
+    ghost view = { λ region. record {
+      pair = region.pair;
+      kept = region.kept;
+      registers = region.map;
+      next = region.next.items;
+    } };
+
+    ghost invariant = { λ _. Unit {0} };
 }
 
 impl<P: Pmem> Region<P> {
     ghost use Rattle.std.specs.Prelude.{◌≡◌, ◌+◌, ◌<◌, ◌≤◌, IfOk, IfErr, OnErr};
     ghost use Rattle.pb_object.specs.declared.request.TheConstants.{LAST_NUMBER};
-    ghost use Rattle.pb_broker.specs.Region.{RegionView, IsSound};
+    ghost use Rattle.pb_broker.specs.Region.{IsSound};
     ghost use Rattle.pb_broker.specs.Script.{IsRequest};
     ghost use Rattle.pb_broker.specs.Serving.{IsFresh, IsRefusal, IsServed, FailsToServe};
 
@@ -34,9 +52,7 @@ impl<P: Pmem> Region<P> {
     pub fn format(alloc: Global, device: P, size: u32) -> Result<Region<P>, Refused<P>>
         requires least { 1 ≤ size }
         requires most { size ≤ 1024 }
-        ensures ok { IfOk result (λ region.
-            let new : RegionView = record { pair = region.pair; kept = region.kept; registers = region.map; next = region.next.items } in
-            IsFresh size (P.seen device) new) }
+        ensures ok { IfOk result (IsFresh size (P.seen device)) }
         ensures err { IfErr result (λ refused. IsRefusal size (P.seen device) (P.seen refused.device) refused.why) }
     {
         let head = Header {
@@ -71,18 +87,11 @@ impl<P: Pmem> Region<P> {
 
     /// Serves a request in a round of its own, and stores it. After an error the region is only closed.
     pub fn serve(&mut self, ask: &Ask) -> Result<Reply, DeviceFault>
-        requires sound { let old : RegionView = record { pair = self.old.pair; kept = self.old.kept; registers = self.old.map; next = self.old.next.items } in
-            IsSound old }
+        requires sound { IsSound self.old }
         requires request { IsRequest (self.old.kept.number + 1) ask.now }
         requires few { self.old.kept.number < LAST_NUMBER }
-        ensures ok { IfOk result (λ reply.
-            let old : RegionView = record { pair = self.old.pair; kept = self.old.kept; registers = self.old.map; next = self.old.next.items } in
-            let new : RegionView = record { pair = self.new.pair; kept = self.new.kept; registers = self.new.map; next = self.new.next.items } in
-            IsServed ask.now reply old new) }
-        ensures err { OnErr result (
-            let old : RegionView = record { pair = self.old.pair; kept = self.old.kept; registers = self.old.map; next = self.old.next.items } in
-            let new : RegionView = record { pair = self.new.pair; kept = self.new.kept; registers = self.new.map; next = self.new.next.items } in
-            FailsToServe ask.now old new) }
+        ensures ok { IfOk result (λ reply. IsServed ask.now reply self.old self.new) }
+        ensures err { OnErr result (FailsToServe ask.now self.old self.new) }
     {
         let reply = self.map.apply(&ask.op);
         self.kept = Kept {

@@ -36,10 +36,12 @@ fn whole(line: u32, words: [u64; 8]) -> LogOp {
     }
 }
 
+/// A write of one word.
 pub fn word(line: u32, word: u32, to: u64) -> LogOp {
     LogOp::Word { line, word, to }
 }
 
+/// Lines given to the device.
 pub fn back(first: u32, count: u32) -> LogOp {
     LogOp::Back { first, count }
 }

@@ -55,7 +55,8 @@ pub fn store_seals_its_round()
         → IsReady base log (Some s ∷ [])
         → IsNextRecord (contents base log) s round lines
         → HasCells base log s round
-        → Leaves base log (storing (header_for s) round.side (rounds_of s round.side) lines) s (sealed_round round ∷ []) (Some (after_round s round) ∷ []) }
+        → Leaves base log (storing (header_for s) round.side (rounds_of s round.side) lines) s
+        (sealed_round round ∷ []) (Some (after_round s round) ∷ []) }
 {}
 
 /// Settling that is cut off anywhere leaves what the device may be found with, and records no round.

@@ -70,15 +70,17 @@ pub record IsInDoubt (tale : Tale) (new : Device) (s : Standing) (round : Round)
   pub left : IsLeftSafe tale new s history (Some s ∷ Some (after_round s round) ∷ [])
   pub rounds : (history ≡ []) ⊎ (rounds_in history ≡ round ∷ [])
 
--- or, where the store failed: the state before the round alone, where the index word wasn't called; and else both, while it is in doubt
+-- or, where it failed before its index word was called, the state before the round, alone
 pub record IsStopped (side : ℕ) (lines : List Line) (old : PairView) (tale : Tale) (new : Device) (s : Standing) : Type 0 where
   pub left : IsLeftSafe tale new s [] (Some s ∷ [])
   pub before : IsCutOff (staging (spare_place old.head side (round_of old side)) lines) left.ops
 
+-- and where it failed from its index word on, both states, while the round is in doubt
 pub record IsUndecided (side : ℕ) (lines : List Line) (old : PairView) (tale : Tale) (new : Device) (s : Standing) (round : Round) : Type 0 where
   pub doubt : IsInDoubt tale new s round
   pub behind : IsCutBehind (staging (spare_place old.head side (round_of old side)) lines) (switching side (round_of old side + 1)) doubt.left.ops
 
+-- one of these
 abbrev pub FailsToStoreSafely : ℕ → List Line → PairView → Device → Type 0
 FailsToStoreSafely side lines old new =
     IfSome old.device.told (λ tale. (s : Standing) (round : Round) → IsStoreOf old side lines s round tale → IsStopped side lines old tale new s ⊎ IsUndecided side lines old tale new s round)

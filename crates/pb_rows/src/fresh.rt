@@ -8,6 +8,7 @@ use std::test::Fail;
 
 const FIRST: &str = "0 1 put 3 77\n0 2 get 3\n";
 
+/// The words of a command line, which are parted by white space.
 pub fn words(alloc: Global, line: &str) -> Result<Vec<String>, AllocError> {
     let mut words = Vec::new(alloc);
     for word in line.split_whitespace() {

@@ -4,7 +4,6 @@ use Rattle.pb_object.specs.declared.request.Ask.{Ask}
 use Rattle.pb_object.specs.declared.request.Reply.{Reply}
 use Rattle.pb_pair.specs.Format.{HadNoRegion}
 use Rattle.pb_broker.specs.History.{history_with}
-use Rattle.pb_broker.specs.Region.{RegionView}
 use Rattle.pb_broker.specs.Run.{IsRunOf, IsStopped, StopsRun}
 use Rattle.pb_pmem.specs.Count.{Rose}
 use Rattle.pb_broker.specs.Serving.{WhereReadyWith, AreServed, FailsToServeAll}
@@ -22,9 +21,8 @@ pub returns-in-Ok-served : goal.returns-in-Ok-served
 returns-in-Ok-served g c =
     let script = c.args.script in
     let before = g.P.Pmem.seen c.args.device in
-    let first : RegionView = record { pair = c.in-Ok.region.pair; kept = c.in-Ok.region.kept; registers = c.in-Ok.region.map; next = c.in-Ok.region.next.items } in
-    let made = c.serve_all-served.new.region in
-    let last : RegionView = record { pair = made.pair; kept = made.kept; registers = made.map; next = made.next.items } in
+    let first = c.in-Ok.region in
+    let last = c.serve_all-served.new.region in
     let replies = c.serve_all-served.new.replies in
     let long : length replies ≡ length script.replies.items = c.serve_all-served.auto.replies ∙ ap length c.deref_mut.ensures.value in
     let written = written_whole script.replies.len replies script.replies.items long script.replies.ok.0 in
@@ -38,8 +36,7 @@ pub returns-in-Err-served : goal.returns-in-Err-served
 returns-in-Err-served g c =
     let script = c.args.script in
     let before = g.P.Pmem.seen c.args.device in
-    let first : RegionView = record { pair = c.in-Ok.region.pair; kept = c.in-Ok.region.kept; registers = c.in-Ok.region.map; next = c.in-Ok.region.next.items } in
-    let made = c.serve_all-served.new.region in
-    let last : RegionView = record { pair = made.pair; kept = made.kept; registers = made.map; next = made.next.items } in
+    let first = c.in-Ok.region in
+    let last = c.serve_all-served.new.region in
     let fails = subst (λ (asks : List Ask). FailsToServeAll asks first last) c.deref.ensures.value c.in-Err-served.ensures.err in
     subst (λ (device : Device). Rose before.faults device.faults × HadNoRegion before device × WhereReadyWith (None ∷ []) before (λ tale. IsStopped tale device script.size script.asks.items)) (sym c.close-device.ensures) (run_stops script before first last c.in-Ok.ensures.ok fails)

@@ -1,5 +1,4 @@
 use Rattle.std.proofs.Common.{get_or, subst, arith}
-use Rattle.pb_broker.specs.Region.{RegionView}
 use Rattle.pb_broker.specs.Script.{IsRequest}
 use Rattle.pb_broker.proofs.Histories.{AreRequests-at}
 use Rattle.pb_broker.proofs.ServeLemmas.{serving_none, serving_more, serving_fails, serving_all, on_err}
@@ -7,7 +6,7 @@ use Rattle.pb_broker.proofs.serve.serve_all.Goals as goal
 
 pub loop-place-init : goal.loop-place-init
 loop-place-init g c =
-    serving_none c.args.asks.now c.args.replies.now (record { pair = c.args.region.now.pair; kept = c.args.region.now.kept; registers = c.args.region.now.map; next = c.args.region.now.next.items }) c.requires.sound c.requires.places c.requires.fresh
+    serving_none c.args.asks.now c.args.replies.now c.args.region.now c.requires.sound c.requires.places c.requires.fresh
 
 pub serve-requires-clause-request : goal.serve-requires-clause-request
 serve-requires-clause-request g c =
@@ -17,20 +16,12 @@ serve-requires-clause-request g c =
 
 pub loop-place-preserved : goal.loop-place-preserved
 loop-place-preserved g c =
-    let old : RegionView = record { pair = c.args.region.now.pair; kept = c.args.region.now.kept; registers = c.args.region.now.map; next = c.args.region.now.next.items } in
-    let now : RegionView = record { pair = c.loop-place.region.pair; kept = c.loop-place.region.kept; registers = c.loop-place.region.map; next = c.loop-place.region.next.items } in
-    let new : RegionView = record { pair = c.serve.new.self.pair; kept = c.serve.new.self.kept; registers = c.serve.new.self.map; next = c.serve.new.self.next.items } in
-    serving_more c.args.asks.now c.loop-place.replies c.loop-place.place _ c.in_ok-replies.field-0 old now new c.requires.requests c.loop-place-test.true c.loop-place.invariant c.in_ok-replies.ensures.ok
+    serving_more c.args.asks.now c.loop-place.replies c.loop-place.place _ c.in_ok-replies.field-0 c.args.region.now c.loop-place.region c.serve.new.self c.requires.requests c.loop-place-test.true c.loop-place.invariant c.in_ok-replies.ensures.ok
 
 pub returns-in_err-replies-clause-err : goal.returns-in_err-replies-clause-err
 returns-in_err-replies-clause-err g c =
-    let old : RegionView = record { pair = c.args.region.now.pair; kept = c.args.region.now.kept; registers = c.args.region.now.map; next = c.args.region.now.next.items } in
-    let now : RegionView = record { pair = c.loop-place.region.pair; kept = c.loop-place.region.kept; registers = c.loop-place.region.map; next = c.loop-place.region.next.items } in
-    let new : RegionView = record { pair = c.serve.new.self.pair; kept = c.serve.new.self.kept; registers = c.serve.new.self.map; next = c.serve.new.self.next.items } in
-    on_err c.from_residual.result (serving_fails c.args.asks.now c.loop-place.replies c.loop-place.place _ old now new c.loop-place-test.true c.loop-place.invariant c.in_err-replies.ensures.err)
+    on_err c.from_residual.result (serving_fails c.args.asks.now c.loop-place.replies c.loop-place.place _ c.args.region.now c.loop-place.region c.serve.new.self c.loop-place-test.true c.loop-place.invariant c.in_err-replies.ensures.err)
 
 pub returns-clause-ok : goal.returns-clause-ok
 returns-clause-ok g c =
-    let old : RegionView = record { pair = c.args.region.now.pair; kept = c.args.region.now.kept; registers = c.args.region.now.map; next = c.args.region.now.next.items } in
-    let now : RegionView = record { pair = c.loop-place.region.pair; kept = c.loop-place.region.kept; registers = c.loop-place.region.map; next = c.loop-place.region.next.items } in
-    serving_all c.args.asks.now c.loop-place.replies c.loop-place.place old now (omega arith) c.loop-place.invariant
+    serving_all c.args.asks.now c.loop-place.replies c.loop-place.place c.args.region.now c.loop-place.region (omega arith) c.loop-place.invariant
