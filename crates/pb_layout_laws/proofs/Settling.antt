@@ -1,6 +1,6 @@
 -- Settling: what it leaves where it is cut off, and behind all of it.
-use Rattle.std.proofs.Common.{◌≡◌, ℕ, zero, suc, ◌+◌, ◌<◌, ◌≤◌, ◌⊎◌, ◌==◌, Bool, true, false, List, [], ◌∷◌, ◌++◌, All, length, take, drop, reverse, Option, Some, None, if◌then◌else◌, ap, subst, sym, refl, ◌∙◌, inl, inr, arith}
-use Rattle.std.proofs.Math.Seq.{take-append_seam, drop-append_seam}
+use Rattle.std.proofs.Common.{◌≡◌, ℕ, zero, suc, ◌+◌, ◌-◌, ◌<◌, ◌≤◌, ◌⊎◌, ◌==◌, Bool, true, false, List, [], ◌∷◌, ◌++◌, All, length, take, drop, reverse, Option, Some, None, if◌then◌else◌, ap, subst, sym, refl, ◌∙◌, inl, inr, arith}
+use Rattle.std.proofs.Math.Seq.{take-append_seam, drop-append_seam, take-append-add}
 use Rattle.std.proofs.lemmas.Bool.{cases_lt, false≢true}
 use Rattle.std.proofs.lemmas.Bool.Decides.{nat_tests}
 use Rattle.std.proofs.lemmas.List.{append-nil, append_assoc, length-append, reverse-append, reverse-reverse, take_all, take-append-le}
@@ -30,7 +30,7 @@ use Rattle.pb_layout.proofs.LogHistories.{history_behind-none, history_behind-fi
 use Rattle.pb_layout.proofs.OneStanding.{one_standing, few_sides}
 use Rattle.pb_layout.proofs.Readiness.{ready_is_kept, settling_word, allowed_writes_same}
 use Rattle.pb_layout_laws.specs.Calls.{IsCutOff, MayAdd, settling}
-use Rattle.pb_layout_laws.specs.Exits.{Leaves}
+use Rattle.pb_layout_laws.specs.Exits.{AlwaysStandFor, Leaves}
 use Rattle.pb_layout.proofs.OneAnswer.{region_from}
 use Rattle.pb_layout_laws.proofs.Compose.{stands_for_one}
 use Rattle.pb_layout_laws.proofs.Fronts.{IsAsAtStart, IsCoveredFront, covers_by_fronts}
@@ -480,6 +480,16 @@ settling_cut_off base log ops s members ready stands cut =
       covers = settling_covers base log ops s members ready stands parts.0 parts.1;
       ready = ready_is_kept base log ops members ready (settling_is_allowed members (contents base log) s ops ready.holds stands parts.0);
     }
+
+-- settling on a device that is ready with s alone changes what no image stands for
+pub settling_may_be_repeated : (base : List Line) (log ops : List LogOp) (s : Standing) → IsReady base log (Some s ∷ []) → IsCutOff (settling_of s) ops ⊎ (ops ≡ settling_of s) → AlwaysStandFor base log ops s
+settling_may_be_repeated base log ops s ready how moment low image left =
+    let settle : All (Settles s) ops = elim how [ inl cut ↦ (cut_settling s ops cut).0 | inr whole ↦ subst (All (Settles s)) (sym whole) (settling_settles s) ] in
+    let front : take moment (log ++ ops) ≡ log ++ take (moment - length log) ops = ap (λ (n : ℕ). take n (log ++ ops)) (omega arith) ∙ take-append-add log ops (moment - length log) in
+    elim (ready.images (take (moment - length log) ops) (All-take (Settles s) (moment - length log) ops settle) image (subst (λ (l : List LogOp). IsLeft base l image) front left)) [
+      | inl stands ↦ stands
+      | inr never ↦ absurd never
+    ]
 
 -- all of settling leaves what the device holds, alone
 pub settling_leaves_one : (base : List Line) (log : List LogOp) (s : Standing) (members : List (Option Standing)) → IsReady base log members → Represents (contents base log) s → Leaves base log (settling (header_for s) (rounds_of s 0) (rounds_of s 1)) s [] (Some s ∷ [])

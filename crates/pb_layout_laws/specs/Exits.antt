@@ -1,9 +1,9 @@
 -- What holds where a call on a region is left.
-use Rattle.std.specs.Prelude.{◌≡◌, ◌⊎◌, ℕ, ◌<◌, true, List, [], ◌∷◌, ◌++◌, length, Option, Some, None, ◌==◌, if◌then◌else◌}
+use Rattle.std.specs.Prelude.{◌≡◌, ◌⊎◌, ℕ, ◌<◌, ◌≤◌, true, List, [], ◌∷◌, ◌++◌, length, Option, Some, None, ◌==◌, if◌then◌else◌}
 use Rattle.pb_pmem.specs.declared.line.Line.{Line}
 use Rattle.pb_pmem.specs.declared.log.LogOp.{LogOp}
 use Rattle.pb_pmem.specs.Contents.{contents}
-use Rattle.pb_pmem.specs.Crash.{IsLeft}
+use Rattle.pb_pmem.specs.Crash.{IsLeft, MayLeave}
 use Rattle.pb_pmem.specs.Lines.{line_at, zero_line}
 use Rattle.pb_object.specs.History.{Round, after_round}
 use Rattle.pb_object.specs.Object.{start_state}
@@ -20,6 +20,11 @@ use Rattle.pb_layout.specs.declared.header.Header.{Header}
 -- each image that a crash may leave behind the whole log stands for s
 abbrev pub AllStandFor : List Line → List LogOp → Standing → Type 0
 AllStandFor base log s = (image : List Line) → IsLeft base log image → Represents image s
+
+-- each image that a crash may leave at any moment of these operations stands for s
+abbrev pub AlwaysStandFor : List Line → List LogOp → List LogOp → Standing → Type 0
+AlwaysStandFor base log ops s =
+    (moment : ℕ) → length log ≤ moment → (image : List Line) → MayLeave base (log ++ ops) moment image → Represents image s
 
 -- a call that made these operations behind a log is covered from s on by this history, and leaves the device ready with these members
 pub record Leaves (base : List Line) (log ops : List LogOp) (s : Standing) (history : List LoggedRound) (members : List (Option Standing)) : Type 0 where

@@ -1,5 +1,5 @@
 //! The laws of crash safety, at the level of lists of operations. These functions are here for their contracts.
-ghost use Rattle.std.specs.Prelude.{◌≡◌, ℕ, ◌+◌, ◌%◌, ◌≤◌, List, [], ◌∷◌, ◌++◌, All, take, length, Option, Some, None};
+ghost use Rattle.std.specs.Prelude.{◌≡◌, ◌⊎◌, ℕ, ◌+◌, ◌%◌, ◌≤◌, List, [], ◌∷◌, ◌++◌, All, take, length, Option, Some, None};
 ghost use Rattle.pb_pmem.specs.declared.line.Line.{Line};
 ghost use Rattle.pb_pmem.specs.declared.line.TheConstants.{LINES};
 ghost use Rattle.pb_pmem.specs.declared.log.LogOp.{LogOp};
@@ -14,7 +14,7 @@ ghost use Rattle.pb_layout.specs.LogHistory.{LoggedRound, rounds_in, AreSealed};
 ghost use Rattle.pb_layout.specs.Ready.{IsReady};
 ghost use Rattle.pb_layout.specs.Represents.{Represents, header_for};
 ghost use Rattle.pb_layout_laws.specs.Calls.{IsCutOff, staging, switching, storing, spare_place, preparing, appearing, formatting, settling};
-ghost use Rattle.pb_layout_laws.specs.Exits.{AllStandFor, Leaves, LeavesInDoubt, LeavesAppearing, sealed_round, AreEmptyRecords, empty_for};
+ghost use Rattle.pb_layout_laws.specs.Exits.{AllStandFor, AlwaysStandFor, Leaves, LeavesInDoubt, LeavesAppearing, sealed_round, AreEmptyRecords, empty_for};
 ghost use Rattle.pb_layout_laws.specs.InUse.{IsOutside};
 ghost use Rattle.pb_layout_laws.specs.NextRecord.{IsNextRecord, HasCells};
 
@@ -74,6 +74,15 @@ pub fn settling_leaves_one()
         → IsReady base log members
         → Represents (contents base log) s
         → Leaves base log (settling (header_for s) (rounds_of s 0) (rounds_of s 1)) s [] (Some s ∷ []) }
+{}
+
+/// Settling that is cut off anywhere or whole, on a device that is ready with one standing alone, changes what no image stands for. So
+/// opening may be stopped and repeated.
+pub fn settling_may_be_repeated()
+    ensures { (base : List Line) (log ops : List LogOp) (s : Standing)
+        → IsReady base log (Some s ∷ [])
+        → IsCutOff (settling (header_for s) (rounds_of s 0) (rounds_of s 1)) ops ⊎ (ops ≡ settling (header_for s) (rounds_of s 0) (rounds_of s 1))
+        → AlwaysStandFor base log ops s }
 {}
 
 /// Formatting that is cut off before its magic is called leaves no region.

@@ -11,7 +11,7 @@ use Rattle.pb_layout.specs.Record.{count_line_of}
 use Rattle.pb_layout.proofs.Readers.{named_by_line}
 use Rattle.pb_layout.proofs.Records.{line_at-piece}
 use Rattle.pb_pair.specs.declared.why.Why.TheVariants.{Damaged}
-use Rattle.pb_pair.specs.Open.{IsRefusedAt}
+use Rattle.pb_pair.specs.Open.{IsOfQueue, IsRefusedAt}
 use Rattle.pb_pair.specs.Reading.{IsFront, IsFrontRefusal}
 use Rattle.pb_pair.proofs.Formatting.{one_side}
 
@@ -74,41 +74,53 @@ pass_second image head second =
 fail_second : (image : List Line) (head : Header) → head.kind ≢ Queue → line_at image 0 ≡ header_line_of head → IsRoundLine (header_in image).kind 1 (line_at image 2) → line_at image 2 ≡ count_line_of 0
 fail_second image head other line own = own.count ∙ ap count_line_of (own.no_side (omega (arith, sides_in image head other line)))
 
+-- a header of another kind isn't a queue's
+pub not_of_queue : (image : List Line) (head : Header) → head.kind ≢ Queue → line_at image 0 ≡ header_line_of head → ¬ IsOfQueue image
+not_of_queue image head other line queue = other (sym (ap (λ (h : Header). h.kind) (header_is image head line)) ∙ queue.1)
+
 -- a refusal of the first three lines
 pub front_refused : (front image : List Line) (line : ℕ) → AreLines front image → IsFrontRefusal front (Damaged line) → IsRefusedAt line image
 front_refused front image line are (inl bad) = record {
   region = sym (ap (λ (l : Line). word l 0) are.header) ∙ bad.region;
-  first = inl (inl (bad.place, λ own. bad.refused (subst IsHeaderLine (sym are.header) own)));
+  first = inl (
+    λ queue. bad.refused (subst IsHeaderLine (sym are.header) queue.0),
+    inl (bad.place, λ own. bad.refused (subst IsHeaderLine (sym are.header) own)),
+  );
 }
 front_refused front image line are (inr (inl queue)) =
     let header = sym are.header ∙ queue.header in
     record {
       region = region_is image queue.head header;
-      first = inr (record {
-        header = pass_header image queue.head queue.valid header;
-        kind = ap (λ (h : Header). h.kind) (header_is image queue.head header) ∙ queue.kind;
-        place = queue.place;
-      });
+      first = inr (
+        (pass_header image queue.head queue.valid header, ap (λ (h : Header). h.kind) (header_is image queue.head header) ∙ queue.kind),
+        queue.place,
+      );
     }
 front_refused front image line are (inr (inr (inl bad))) =
     let header = sym are.header ∙ bad.header in
     record {
       region = region_is image bad.head header;
-      first = inl (inr (
-        pass_header image bad.head bad.valid header,
-        inl (bad.place, λ own. bad.refused (are.first ∙ (own.count ∙ sym (ap (λ (l : Line). count_line_of (word l 0)) are.first)))),
-      ));
+      first = inl (
+        not_of_queue image bad.head bad.kind header,
+        inr (
+          pass_header image bad.head bad.valid header,
+          inl (bad.place, λ own. bad.refused (are.first ∙ (own.count ∙ sym (ap (λ (l : Line). count_line_of (word l 0)) are.first)))),
+        ),
+      );
     }
 front_refused front image line are (inr (inr (inr bad))) =
     let header = sym are.header ∙ bad.header in
     let first = sym are.first ∙ (bad.first ∙ ap (λ (l : Line). count_line_of (word l 0)) are.first) in
     record {
       region = region_is image bad.head header;
-      first = inl (inr (
-        pass_header image bad.head bad.valid header,
+      first = inl (
+        not_of_queue image bad.head bad.kind header,
         inr (
-          pass_first image bad.head bad.kind header first,
-          inl (bad.place, λ own. bad.refused (are.second ∙ fail_second image bad.head bad.kind header own)),
+          pass_header image bad.head bad.valid header,
+          inr (
+            pass_first image bad.head bad.kind header first,
+            inl (bad.place, λ own. bad.refused (are.second ∙ fail_second image bad.head bad.kind header own)),
+          ),
         ),
-      ));
+      );
     }

@@ -19,7 +19,7 @@ use Rattle.pb_pair.specs.Open.{IsReadFrom, IsOpened, IsRefusedAt, IsOpenRefusal}
 use Rattle.pb_pair.specs.Reading.{HasRead, IsFront, IsFrontRefusal, IsRecordRefusal}
 use Rattle.pb_pair.proofs.Formatted.{one_view, is_pair}
 use Rattle.pb_pair.proofs.Formatting.{one_side}
-use Rattle.pb_pair.proofs.Front.{lines_read, front_in, header_is, region_is, pass_header, pass_first, pass_second, front_refused}
+use Rattle.pb_pair.proofs.Front.{lines_read, front_in, header_is, region_is, pass_header, pass_first, pass_second, not_of_queue, front_refused}
 
 -- what is told may be weaker
 pub told_weaker : {X : Type 0} (now : Option X) (P Q : X → Type 0) → ((x : X) → P x → Q x) → IfSome now P → IfSome now Q
@@ -155,14 +155,17 @@ refused_record front lines header count first old mid new (Damaged line) read re
         let at : line ≡ record_place_in image 0 + refusal.0 = refusal.1 ∙ ap (λ (n : ℕ). n + refusal.0) place in
         record {
           region = region_is image header are.front.header;
-          first = inl (inr (
-            pass_header image header are.front.valid are.front.header,
+          first = inl (
+            not_of_queue image header are.front.kind are.front.header,
             inr (
-              pass_first image header are.front.kind are.front.header are.front.first,
+              pass_header image header are.front.valid are.front.header,
               inr (
-                pass_second image header are.front.second,
-                inl (some, (refusal.0, at, same_bad _ _ _ _ _ _ refusal.0 are.same_head are.same_round are.same_lines refusal.2)),
+                pass_first image header are.front.kind are.front.header are.front.first,
+                inr (
+                  pass_second image header are.front.second,
+                  inl (some, (refusal.0, at, same_bad _ _ _ _ _ _ refusal.0 are.same_head are.same_round are.same_lines refusal.2)),
+                ),
               ),
             ),
-          ));
+          );
         }

@@ -42,7 +42,7 @@ pub where_told : (Holds : Tale → Type 0) (told : Option Tale) → ((tale : Tal
 where_told Holds None shown = tt
 where_told Holds (Some tale) shown = shown tale refl
 
-told_behind : (old new : Option Tale) (tale : Tale) (ops : List LogOp) → old ≡ Some tale → new ≡ option_map (with_ops ops) old → new ≡ Some (with_ops ops tale)
+pub told_behind : (old new : Option Tale) (tale : Tale) (ops : List LogOp) → old ≡ Some tale → new ≡ option_map (with_ops ops) old → new ≡ Some (with_ops ops tale)
 told_behind old new tale ops told grown = grown ∙ ap (option_map (with_ops ops)) told
 
 -- a call whose operations leave the device so
@@ -149,7 +149,7 @@ stops_storing_safely side lines old new whole replay few stops =
 
 -- Settling
 
-same_settling : (old : PairView) (s : Standing) → IsPairOf old s → settling old.head (round_of old 0) (round_of old 1) ≡ settling (header_for s) (rounds_of s 0) (rounds_of s 1)
+pub same_settling : (old : PairView) (s : Standing) → IsPairOf old s → settling old.head (round_of old 0) (round_of old 1) ≡ settling (header_for s) (rounds_of s 0) (rounds_of s 1)
 same_settling old s of =
     let first = of.rounds 0 (omega arith) in
     let second = of.rounds 1 (omega arith) in

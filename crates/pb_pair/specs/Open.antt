@@ -27,16 +27,14 @@ pub record IsOpened (device : Device) (pair : PairView) : Type 0 where
   pub read : IfSome device.now (IsReadFrom pair)
   pub known : pair.known ≡ Opened
 
--- the region is a queue's, which has no pair yet: that is the header's fault
-pub record IsQueueHeader (image : List Line) (line : ℕ) : Type 0 where
-  pub header : IsHeaderLine (line_at image 0)
-  pub kind : (header_in image).kind ≡ Queue
-  pub place : line ≡ 0
+-- the region is a queue's, which has no pair yet
+abbrev pub IsOfQueue : List Line → Type 0
+IsOfQueue image = IsHeaderLine (line_at image 0) × ((header_in image).kind ≡ Queue)
 
--- the region is damaged, and this is the first line that opening refuses
+-- the region is damaged, and this is the first line that opening refuses: of a queue's region the header's, whatever stands behind it
 pub record IsRefusedAt (line : ℕ) (image : List Line) : Type 0 where
   pub region : HasRegion image
-  pub first : IsFirstNamed (opening_checks image) line ⊎ IsQueueHeader image line
+  pub first : (¬ IsOfQueue image × IsFirstNamed (opening_checks image) line) ⊎ (IsOfQueue image × (line ≡ 0))
 
 -- a read failed
 pub record HasFailedRead (fault : DeviceFault) (old new : Device) : Type 0 where

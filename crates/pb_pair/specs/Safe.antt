@@ -10,7 +10,7 @@ use Rattle.pb_layout.specs.LogHistory.{LoggedRound, rounds_in}
 use Rattle.pb_layout.specs.Ready.{IsReady}
 use Rattle.pb_layout.specs.Represents.{Represents, header_for}
 use Rattle.pb_layout.specs.declared.header.Header.{Header}
-use Rattle.pb_layout_laws.specs.Exits.{Leaves, AreEmptyRecords, empty_for, sealed_round}
+use Rattle.pb_layout_laws.specs.Exits.{AlwaysStandFor, Leaves, AreEmptyRecords, empty_for, sealed_round}
 use Rattle.pb_layout_laws.specs.NextRecord.{IsNextRecord, HasCells}
 use Rattle.pb_layout_laws.specs.Calls.{IsCutOff, staging, switching, spare_place}
 use Rattle.pb_pair.specs.Calls.{with_ops, IsCutBehind}
@@ -99,3 +99,9 @@ SettlesSafely old new =
 abbrev pub FailsToSettleSafely : PairView → Device → Type 0
 FailsToSettleSafely old new =
     IfSome old.device.told (λ tale. (s : Standing) (members : List (Option Standing)) → IsSettlingOf old s members tale → IsLeftSafe tale new s [] members)
+
+-- behind a call the log is longer by some operations, and at each moment of these a crash leaves what stands for s
+pub record StaysFound (tale : Tale) (new : Device) (s : Standing) : Type 0 where
+  pub ops : List LogOp
+  pub told : new.told ≡ Some (with_ops ops tale)
+  pub images : AlwaysStandFor tale.base tale.log ops s

@@ -5,6 +5,7 @@
 mod calls;
 mod format;
 mod known;
+pub mod laws;
 mod open;
 mod pair;
 mod settle;

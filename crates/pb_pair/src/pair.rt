@@ -56,7 +56,8 @@ impl<P: Pmem> Pair<P> {
     ///
     /// The header's kind isn't a queue's. `first` is a record of round 0 of side 0, and `second` is empty. Memory is taken before the
     /// first write: `Memory` leaves the device as it was. `Taken` comes exactly where the device has a region, and leaves it as it was.
-    /// `Device` comes where a call of the device failed: there is no region, or the whole one.
+    /// `Device` comes where a call of the device failed: a region that was there is as it was, and where there was none there still is
+    /// none, or the whole one.
     pub fn format(
         alloc: Global,
         mut device: P,
@@ -159,8 +160,7 @@ impl<P: Pmem> Pair<P> {
         self.round
     }
 
-    /// Whether the device holds the records in use, and a crash leaves them. It is so from formatting, from settling and from each
-    /// store on, until a call fails.
+    /// Whether the pair may be stored to. It is so from formatting, from settling and from each store on, until a call fails.
     pub fn sure(&self) -> bool
         ensures { IsTrue result ↔ (self.now.known ≡ Sure) }
     {
@@ -185,7 +185,7 @@ impl<P: Pmem> Pair<P> {
     /// Stores a side's next record: first its lines become durable, and then the side switches to it. The pair stays sure.
     ///
     /// `lines` is a whole record that carries the round number behind the side's. After an error the pair has failed, and tells what
-    /// it told before; the device holds the old record or the new one. Takes no memory.
+    /// it told before; on a device that was ready with the old record's state, the old record is in use or the new one. Takes no memory.
     pub fn store(&mut self, side: u32, lines: &[Line]) -> Result<(), DeviceFault>
         requires sure { self.old.known ≡ Sure }
         requires next { IsNext self.old side lines.now }

@@ -15,9 +15,11 @@ pub enum Why {
     Damaged { line: u32 },
 }
 
-/// A device that is handed back, with the reason.
+/// What formatting and opening answer where they make no pair.
 #[derive(Drop)]
 pub struct Refused<P> {
+    /// The device that the call was given.
     pub device: P,
+    /// Why there is no pair.
     pub why: Why,
 }
