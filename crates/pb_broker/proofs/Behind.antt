@@ -23,8 +23,8 @@ use Rattle.pb_layout_laws.proofs.Fronts.{covers_by_fronts}
 use Rattle.pb_layout_laws.proofs.Histories.{rounds_in-append, state_after-append}
 use Rattle.pb_pair.specs.Calls.{with_ops}
 use Rattle.pb_pair.specs.Safe.{held, IsReadyWith, IsLeftSafe, IsInDoubt}
-use Rattle.pb_broker.specs.History.{ServesEach, served, run_of}
-use Rattle.pb_broker.specs.Serving.{WhereReadyWith, IsSealedBehind, IsStoppedBehind, AreAround, IsCaught}
+use Rattle.pb_broker.specs.History.{run_of}
+use Rattle.pb_broker.specs.Serving.{WhereReadyWith, IsSealedBehind, IsCaught}
 use Rattle.pb_broker.proofs.Histories.{state_after-push, IsLegal-push}
 
 -- the one member of a ready device is what it stands for
@@ -135,33 +135,53 @@ told_region new tale s history members left region =
     subst (λ (o : Option Tale). IfSome o (λ end. HasRegion (held end))) (sym left.told) (region (held (with_ops left.ops tale)) left.leaves.ready.holds)
 
 -- a round that failed, behind sealed ones
-pub stopped_then : (tale : Tale) (mid new : Device) (s : Standing) (asks front rest : List Ask) (ask : Ask) (rounds : History) (round : Round) (behind : IsSealedBehind tale mid s rounds) → asks ≡ front ++ ask ∷ rest → rounds ≡ run_of s front → round ≡ served (state_after s rounds) ask → ServesEach front rounds → ServesEach (front ++ ask ∷ []) (rounds ++ round ∷ []) → IsLegal s rounds → IsLegalRound (state_after s rounds) round → WhereReadyWith (Some (state_after s rounds) ∷ []) mid (λ t. IsLeftSafe t new (state_after s rounds) [] (Some (state_after s rounds) ∷ []) ⊎ IsInDoubt t new (state_after s rounds) round) → IsCaught tale new s asks
-stopped_then tale mid new s asks front rest ask rounds round behind whole run is serves more legal one safe =
+pub stopped_then : (tale : Tale) (mid new : Device) (s : Standing) (asks front rest : List Ask) (ask : Ask) (rounds : History) (round : Round) (behind : IsSealedBehind tale mid s rounds) → asks ≡ front ++ ask ∷ rest → rounds ≡ run_of s front → rounds ++ round ∷ [] ≡ run_of s (front ++ ask ∷ []) → IsLegal s rounds → IsLegalRound (state_after s rounds) round → WhereReadyWith (Some (state_after s rounds) ∷ []) mid (λ t. IsLeftSafe t new (state_after s rounds) [] (Some (state_after s rounds) ∷ []) ⊎ IsInDoubt t new (state_after s rounds) round) → IsCaught tale new s asks
+stopped_then tale mid new s asks front rest ask rounds round behind whole run more legal one safe =
     elim (shown (λ t. IsLeftSafe t new (state_after s rounds) [] (Some (state_after s rounds) ∷ []) ⊎ IsInDoubt t new (state_after s rounds) round) members mid (with_ops behind.left.ops tale) safe behind.left.told behind.left.leaves.ready) [
       | inl last ↦
           let joined = behind_then tale mid new s rounds [] members behind last in
           let same : rounds_in (behind.history ++ []) ≡ rounds = ap rounds_in (append-nil behind.history) ∙ behind.rounds_are in
           record {
-            behind = stop (behind.history ++ []) members joined front (ask ∷ rest) whole same legal serves;
-            around = record { front = front; rest = ask ∷ rest; front_is = whole; are = inl (ap (λ (h : History). Some (state_after s h) ∷ []) run) };
+            behind = record { history = behind.history ++ []; members = members; left = joined; legal = subst (IsLegal s) (sym same) legal };
+            around = record {
+              front = front;
+              rest = ask ∷ rest;
+              front_is = whole;
+              are = inl (same ∙ run, ap (λ (h : History). Some (state_after s h) ∷ []) run);
+            };
             region = told_region new tale s (behind.history ++ []) members joined (λ image. region_of_one image (state_after s rounds));
           }
       | inr doubt ↦
           let joined = behind_then tale mid new s rounds doubt.history two behind doubt.left in
-          let region = told_region new tale s (behind.history ++ doubt.history) two joined (λ image. region_of_two image (state_after s rounds) (after_round (state_after s rounds) round)) in
           let both : rounds_in (behind.history ++ doubt.history) ≡ rounds ++ rounds_in doubt.history = rounds_in-append behind.history doubt.history ∙ ap (λ (h : History). h ++ rounds_in doubt.history) behind.rounds_are in
-          elim doubt.rounds [
-            | inl none ↦ record {
-              behind = stop (behind.history ++ doubt.history) two joined front (ask ∷ rest) whole (both ∙ (ap (λ (h : List LoggedRound). rounds ++ rounds_in h) none ∙ append-nil rounds)) legal serves;
-              around = around_two;
-              region = region;
-            }
-            | inr there ↦ record {
-              behind = stop (behind.history ++ doubt.history) two joined (front ++ ask ∷ []) rest (whole ∙ sym (append_assoc front (ask ∷ []) rest)) (both ∙ ap (λ (h : History). rounds ++ h) there) (IsLegal-push s rounds round legal one) more;
-              around = around_two;
-              region = region;
-            }
-          ]
+          let told : (rounds_in (behind.history ++ doubt.history) ≡ rounds) ⊎ (rounds_in (behind.history ++ doubt.history) ≡ rounds ++ round ∷ []) = elim doubt.rounds [
+            | inl none ↦ inl (both ∙ (ap (λ (h : List LoggedRound). rounds ++ rounds_in h) none ∙ append-nil rounds))
+            | inr there ↦ inr (both ∙ ap (λ (h : History). rounds ++ h) there)
+          ] in
+          record {
+            behind = record {
+              history = behind.history ++ doubt.history;
+              members = two;
+              left = joined;
+              legal = elim told [
+                | inl same ↦ subst (IsLegal s) (sym same) legal
+                | inr same ↦ subst (IsLegal s) (sym same) (IsLegal-push s rounds round legal one)
+              ];
+            };
+            around = record {
+              front = front;
+              rest = ask ∷ rest;
+              front_is = whole;
+              are = inr (record {
+                ask = ask;
+                more = rest;
+                next = refl;
+                told_is = elim told [ inl same ↦ inl (same ∙ run) | inr same ↦ inr (same ∙ more) ];
+                members_are = λ i. Some (state_after s (run i)) ∷ Some (behind_is i) ∷ [];
+              });
+            };
+            region = told_region new tale s (behind.history ++ doubt.history) two joined (λ image. region_of_two image (state_after s rounds) (after_round (state_after s rounds) round));
+          }
     ]
   where
     members : List (Option Standing)
@@ -170,21 +190,5 @@ stopped_then tale mid new s asks front rest ask rounds round behind whole run is
     two : List (Option Standing)
     two = Some (state_after s rounds) ∷ Some (after_round (state_after s rounds) round) ∷ []
 
-    two_by : (run : History) → rounds ≡ run → two ≡ Some (state_after s run) ∷ Some (after_round (state_after s run) (served (state_after s run) ask)) ∷ []
-    two_by run e =
-        ap (λ (r : Round). Some (state_after s rounds) ∷ Some (after_round (state_after s rounds) r) ∷ []) is ∙ ap (λ (h : History). Some (state_after s h) ∷ Some (after_round (state_after s h) (served (state_after s h) ask)) ∷ []) e
-
-    around_two : AreAround s asks two
-    around_two = record { front = front; rest = ask ∷ rest; front_is = whole; are = inr (ask, rest, refl, two_by (run_of s front) run) }
-
-    stop : {told : History} (history : List LoggedRound) (found : List (Option Standing)) → IsLeftSafe tale new s history found → (first last : List Ask) → asks ≡ first ++ last → rounds_in history ≡ told → IsLegal s told → ServesEach first told → IsStoppedBehind tale new s asks
-    stop {told} history found left first last is_front same lawful each = record {
-      history = history;
-      members = found;
-      left = left;
-      legal = subst (IsLegal s) (sym same) lawful;
-      front = first;
-      rest = last;
-      front_is = is_front;
-      serves = subst (ServesEach first) (sym same) each;
-    }
+    behind_is : after_round (state_after s rounds) round ≡ state_after s (run_of s (front ++ ask ∷ []))
+    behind_is = sym (state_after-push s rounds round) ∙ ap (state_after s) more

@@ -17,10 +17,10 @@ use Rattle.pb_pair.specs.Calls.{with_ops}
 use Rattle.pb_pair.specs.Format.{HadNoRegion}
 use Rattle.pb_pair.specs.Safe.{held, IsReadyWith, IsLeftSafe, HasAppeared}
 use Rattle.pb_broker.specs.declared.requests.Requests.{Requests}
-use Rattle.pb_broker.specs.History.{ServesEach, history_with}
+use Rattle.pb_broker.specs.History.{history_with}
 use Rattle.pb_broker.specs.Region.{RegionView, map_header}
 use Rattle.pb_broker.specs.Run.{IsRunOf, IsStopped, StopsRun, stop_for}
-use Rattle.pb_broker.specs.Serving.{fresh_map, Holds, WhereReadyWith, IsFresh, IsRefusal, IsSealedBehind, AreFound, IsCaught, AreServed, FailsToServeAll}
+use Rattle.pb_broker.specs.Serving.{fresh_map, Holds, WhereReadyWith, IsFresh, IsRefusal, IsSealedBehind, AreAround, IsCaught, AreServed, FailsToServeAll}
 use Rattle.pb_broker.proofs.Behind.{shown, behind_then, sealed_behind}
 use Rattle.pb_broker.proofs.ServeLemmas.{told_step}
 
@@ -82,12 +82,8 @@ run_stops script before first last fresh fails = (
             members = part.members;
             left = behind_then tale first.pair.device last.pair.device start [] part.history part.members behind part.left;
             legal = subst (IsLegal start) (sym (rounds behind part.history)) part.legal;
-            front = part.front;
-            rest = part.rest;
-            front_is = part.front_is;
-            serves = subst (ServesEach part.front) (sym (rounds behind part.history)) part.serves;
           };
-          found = inr (inr last_part.around);
+          found = inr (subst (λ (h : History). AreAround start asks h part.members) (sym (rounds behind part.history)) last_part.around);
           nothing = never_nothing last.pair.device.told last_part.region;
         }
       where
@@ -106,10 +102,10 @@ refused_is script before after (DeviceWhy fault) fails = (
     start : Standing
     start = fresh_map script.size
 
-    stop : (tale : Tale) (members : List (Option Standing)) → AreFound script.size script.asks.items members → IsLeftSafe tale after start [] members → IfSome after.told (λ end. ¬ HasRegion (held end) → IsReadyWith (None ∷ []) end) → IsStopped tale after script.size script.asks.items
+    stop : (tale : Tale) (members : List (Option Standing)) → (members ≡ None ∷ []) ⊎ (members ≡ None ∷ Some start ∷ []) → IsLeftSafe tale after start [] members → IfSome after.told (λ end. ¬ HasRegion (held end) → IsReadyWith (None ∷ []) end) → IsStopped tale after script.size script.asks.items
     stop tale members found left nothing = record {
-      found = found;
-      behind = record { history = []; members = members; left = left; legal = tt; front = []; rest = script.asks.items; front_is = refl; serves = tt };
+      found = inl (refl, found);
+      behind = record { history = []; members = members; left = left; legal = tt };
       nothing = nothing;
     }
 
@@ -120,7 +116,7 @@ refused_is script before after (DeviceWhy fault) fails = (
     stopped : (tale : Tale) → IsLeftSafe tale after start [] (None ∷ []) ⊎ HasAppeared tale after (map_header script.size) → IsStopped tale after script.size script.asks.items
     stopped tale (inl left) =
         stop tale (None ∷ []) (inl refl) left (subst (λ (o : Option Tale). IfSome o (λ end. ¬ HasRegion (held end) → IsReadyWith (None ∷ []) end)) (sym left.told) (λ nothing. left.leaves.ready))
-    stopped tale (inr there) = stop tale (None ∷ Some start ∷ []) (inr (inl refl)) there.left (appeared after.told there.holds)
+    stopped tale (inr there) = stop tale (None ∷ Some start ∷ []) (inr refl) there.left (appeared after.told there.holds)
 refused_is script before after TakenWhy refusal = refusal
 refused_is script before after NoRegion never = absurd never
 refused_is script before after (Damaged line) never = absurd never

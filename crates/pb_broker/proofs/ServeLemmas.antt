@@ -86,9 +86,10 @@ serving_fails asks replies place d old now new inside serving fails =
     let whole : asks ≡ take place asks ++ ask ∷ drop (place + 1) asks = sym (take-append-drop place asks) ∙ ap (λ (l : List Ask). take place asks ++ l) (drop_more asks place d inside) in
     let serves : ServesEach (take place asks) history = ServesEach-history (take place asks) (take place replies) (omega (arith, length-take place asks, length-take place replies, serving.places)) in
     let one : ServesEach (ask ∷ []) (round ∷ []) = ((reply, refl), tt) in
+    let legal = subst (λ (t : Standing). IsLegalRound t round) serving.after fails.legal in
     record {
       rose = subst (λ (n : ℕ). Rose n new.pair.device.faults) serving.faults fails.rose;
-      safe = told_step (λ tale. IsReadyWith (Some s ∷ []) tale → IsSealedBehind tale now.pair.device s history) (λ tale. IsReadyWith (Some s ∷ []) tale → IsCaught tale new.pair.device s asks) old.pair.device.told serving.safe (λ tale told behind ready. stopped_then tale now.pair.device new.pair.device s asks (take place asks) (drop (place + 1) asks) ask history round (behind ready) whole (legal_run s (take place asks) history serves serving.legal) (ap (λ (t : Standing). served t ask) serving.after) serves (ServesEach-append (take place asks) (ask ∷ []) history (round ∷ []) serves one) serving.legal (subst (λ (t : Standing). IsLegalRound t round) serving.after fails.legal) (subst (λ (t : Standing). WhereReadyWith (Some t ∷ []) now.pair.device (λ u. IsLeftSafe u new.pair.device t [] (Some t ∷ []) ⊎ IsInDoubt u new.pair.device t round)) serving.after fails.safe));
+      safe = told_step (λ tale. IsReadyWith (Some s ∷ []) tale → IsSealedBehind tale now.pair.device s history) (λ tale. IsReadyWith (Some s ∷ []) tale → IsCaught tale new.pair.device s asks) old.pair.device.told serving.safe (λ tale told behind ready. stopped_then tale now.pair.device new.pair.device s asks (take place asks) (drop (place + 1) asks) ask history round (behind ready) whole (legal_run s (take place asks) history serves serving.legal) (legal_run s (take place asks ++ ask ∷ []) (history ++ round ∷ []) (ServesEach-append (take place asks) (ask ∷ []) history (round ∷ []) serves one) (IsLegal-push s history round serving.legal legal)) serving.legal legal (subst (λ (t : Standing). WhereReadyWith (Some t ∷ []) now.pair.device (λ u. IsLeftSafe u new.pair.device t [] (Some t ∷ []) ⊎ IsInDoubt u new.pair.device t round)) serving.after fails.safe));
     }
 
 pub serving_all : (asks : List Ask) (replies : List Reply) (place : ℕ) (old now : RegionView) → place ≡ length asks → IsServing asks replies place old now → AreServed asks (history_with asks replies) old now

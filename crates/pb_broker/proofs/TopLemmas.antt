@@ -31,7 +31,7 @@ use Rattle.pb_broker.specs.declared.stop.Stop.TheVariants.{Memory, Usage, ReadFa
 use Rattle.pb_broker.specs.History.{ServesEach, history_with, history_text, run_of}
 use Rattle.pb_broker.specs.Output.{usage_text, long_text, line_text, taken_text}
 use Rattle.pb_broker.specs.Run.{IsCommand, IsRunOf, IsStopped, Ran, Stops, Printed, Prints, served_text}
-use Rattle.pb_broker.specs.Serving.{fresh_map, Holds, WhereReadyWith, IsSealedBehind}
+use Rattle.pb_broker.specs.Serving.{AreFound, fresh_map, Holds, WhereReadyWith, IsSealedBehind}
 use Rattle.pb_broker.specs.Top.{Call, Output, Wrote, WroteSome, WroteNothing, WhereReady, told_history, IsCoveredCall, IsSafeCall, IsDurable, IsInterrupted, IsRun, IsSameDevice, SaysUsage, SaysRefusal, SaysTaken, SaysRun, SaysSome, HasFault, IsAnswered}
 use Rattle.pb_broker.specs.Words.{IsFreshMap}
 use Rattle.pb_broker.proofs.Histories.{ServesEach-history, legal_run}
@@ -156,12 +156,8 @@ module _ (call : Call) (size : ℕ) (asks : List Ask) (stopped : WhereReadyWith 
         with_ops left.ops tale,
         left.told,
         record {
-          front = stop.behind.front;
-          rest = stop.behind.rest;
-          front_is = stop.behind.front_is;
-          each = subst (λ (h : List LoggedRound). ServesEach stop.behind.front (rounds_in h)) left.leaves.covers.told stop.behind.serves;
           members = stop.behind.members;
-          found = stop.found;
+          found = subst (λ (h : List LoggedRound). AreFound size asks (rounds_in h) stop.behind.members) left.leaves.covers.told stop.found;
           ready = left.leaves.ready;
         },
       ))

@@ -8,6 +8,7 @@ use Rattle.pb_object.specs.declared.request.Reply.{Reply}
 use Rattle.pb_object.specs.declared.request.TheConstants.{LAST_NUMBER}
 use Rattle.pb_object.specs.History.{IsLegal, state_after}
 use Rattle.pb_layout.specs.Damage.{HasRegion}
+use Rattle.pb_layout.specs.LogHistory.{rounds_in}
 use Rattle.pb_pair.specs.declared.why.Why.{Why}
 use Rattle.pb_pair.specs.declared.why.Why.TheVariants.{Memory as MemoryWhy, Device as DeviceWhy, Taken as TakenWhy, NoRegion, Damaged}
 use Rattle.pb_pair.specs.Format.{HadNoRegion}
@@ -72,8 +73,8 @@ pub record HasRun (script : Requests) (before after : Device) (served : Requests
 
 -- a call of the device failed; where the device then holds no region, it is ready with none alone
 pub record IsStopped (tale : Tale) (after : Device) (size : ℕ) (asks : List Ask) : Type 0 where
-  pub behind : IsStoppedBehind tale after (fresh_map size) asks
-  pub found : AreFound size asks behind.members
+  pub behind : IsStoppedBehind tale after (fresh_map size)
+  pub found : AreFound size asks (rounds_in behind.history) behind.members
   pub nothing : IfSome after.told (λ end. ¬ HasRegion (held end) → IsReadyWith (None ∷ []) end)
 
 -- why a run stops on the device, and what stands then

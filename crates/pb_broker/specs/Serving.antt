@@ -16,7 +16,7 @@ use Rattle.pb_pair.specs.declared.why.Why.{Why}
 use Rattle.pb_pair.specs.declared.why.Why.TheVariants.{Memory, Device as DeviceWhy, Taken, NoRegion, Damaged}
 use Rattle.pb_pair.specs.Format.{HadNoRegion}
 use Rattle.pb_pair.specs.Safe.{held, IsReadyWith, IsLeftSafe, HasAppeared, IsInDoubt}
-use Rattle.pb_broker.specs.History.{ServesEach, served, run_of}
+use Rattle.pb_broker.specs.History.{served, run_of}
 use Rattle.pb_broker.specs.Region.{RegionView, map_header, standing_of, IsSound}
 
 -- the standing of a fresh map of one client
@@ -79,37 +79,46 @@ pub record IsSealedBehind (tale : Tale) (new : Device) (s : Standing) (rounds : 
   pub sealed : AreSealed history
   pub rounds_are : rounds_in history ≡ rounds
 
--- the calls stopped at a failing one: the log has a legal history of the first of these requests, and the device is ready
-pub record IsStoppedBehind (tale : Tale) (new : Device) (s : Standing) (asks : List Ask) : Type 0 where
+-- the calls stopped at a failing one: the log has a legal history, and the device is ready
+pub record IsStoppedBehind (tale : Tale) (new : Device) (s : Standing) : Type 0 where
   pub history : List LoggedRound
   pub members : List (Option Standing)
   pub left : IsLeftSafe tale new s history members
   pub legal : IsLegal s (rounds_in history)
-  pub front : List Ask
-  pub rest : List Ask
-  pub front_is : asks ≡ front ++ rest
-  pub serves : ServesEach front (rounds_in history)
 
--- the state behind the first of these requests, alone or beside the state behind one more
+-- the state behind the first requests
 abbrev pub behind_first : Standing → List Ask → Standing
 behind_first s front = state_after s (run_of s front)
 
-pub record AreAround (s : Standing) (asks : List Ask) (members : List (Option Standing)) : Type 0 where
+-- the first requests were served: the log tells their run, and the device may be found with the state behind it alone
+abbrev pub AreServedTo : Standing → List Ask → History → List (Option Standing) → Type 0
+AreServedTo s front told members = (told ≡ run_of s front) × (members ≡ Some (behind_first s front) ∷ [])
+
+-- and the next one is in doubt: the log tells its round too, or doesn't; the device may be found with the state before it or behind it
+pub record IsNextInDoubt (s : Standing) (front rest : List Ask) (told : History) (members : List (Option Standing)) : Type 0 where
+  pub ask : Ask
+  pub more : List Ask
+  pub next : rest ≡ ask ∷ more
+  pub told_is : (told ≡ run_of s front) ⊎ (told ≡ run_of s (front ++ ask ∷ []))
+  pub members_are : members ≡ Some (behind_first s front) ∷ Some (behind_first s (front ++ ask ∷ [])) ∷ []
+
+-- one of these, for a front of the requests
+pub record AreAround (s : Standing) (asks : List Ask) (told : History) (members : List (Option Standing)) : Type 0 where
   pub front : List Ask
   pub rest : List Ask
   pub front_is : asks ≡ front ++ rest
-  pub are : (members ≡ Some (behind_first s front) ∷ [])
-      ⊎ ((ask : Ask) × (more : List Ask) × (rest ≡ ask ∷ more) × (members ≡ Some (behind_first s front) ∷ Some (after_round (behind_first s front) (served (behind_first s front) ask)) ∷ []))
+  pub are : AreServedTo s front told members ⊎ IsNextInDoubt s front rest told members
 
--- what a device may be found with behind a fault: no region, alone or beside the fresh map; or a state behind the first requests, alone or
--- beside the state behind one more
-abbrev pub AreFound : ℕ → List Ask → List (Option Standing) → Type 0
-AreFound size asks members = (members ≡ None ∷ []) ⊎ ((members ≡ None ∷ Some (fresh_map size) ∷ []) ⊎ AreAround (fresh_map size) asks members)
+-- what a log tells behind a fault, and what the device may be found with: nothing was served, and there is no region, alone or beside the
+-- fresh map; or the first requests were served, and the next one may be in doubt
+abbrev pub AreFound : ℕ → List Ask → History → List (Option Standing) → Type 0
+AreFound size asks told members =
+    ((told ≡ []) × ((members ≡ None ∷ []) ⊎ (members ≡ None ∷ Some (fresh_map size) ∷ []))) ⊎ AreAround (fresh_map size) asks told members
 
 -- what a run that stopped leaves on the device: a region that may be found in the states around the request that failed
 pub record IsCaught (tale : Tale) (new : Device) (s : Standing) (asks : List Ask) : Type 0 where
-  pub behind : IsStoppedBehind tale new s asks
-  pub around : AreAround s asks behind.members
+  pub behind : IsStoppedBehind tale new s
+  pub around : AreAround s asks (rounds_in behind.history) behind.members
   pub region : IfSome new.told (λ end. HasRegion (held end))
 
 -- all requests were served

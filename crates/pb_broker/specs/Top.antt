@@ -1,5 +1,5 @@
 -- What the first command promises: `fresh map 1 SIZE` over a script of one client.
-use Rattle.std.specs.Prelude.{◌≡◌, ◌≢◌, ◌⊎◌, ℕ, ◌<◌, ◌≤◌, List, [], ◌∷◌, ◌++◌, Option, Some, None, IfSome, length}
+use Rattle.std.specs.Prelude.{◌≡◌, ◌≢◌, ◌⊎◌, ℕ, ◌<◌, ◌≤◌, List, [], ◌∷◌, Option, Some, None, IfSome, length}
 use Rattle.std.specs.Io.KnownBytes.{Appends, Keeps, IsAtEnd}
 use Rattle.pb_pmem.specs.declared.log.LogOp.{LogOp}
 use Rattle.pb_pmem.specs.Contents.{contents}
@@ -102,15 +102,11 @@ pub record IsDurable (size : ℕ) (asks : List Ask) (text : List ℕ) (before af
   pub text_is : text ≡ history_text (told_history before after)
   pub ready : IsReady after.base after.log (Some (state_after (fresh_map size) (told_history before after)) ∷ [])
 
--- after a fault: it has a round for each of the first requests, and the device may be found with no region, with the state behind the
--- first requests, or, in doubt, also with the state behind one more
+-- after a fault: it is empty, and the device may be found with no region; or it is the run of the first requests, and the device may be
+-- found with the state behind it, or, in doubt, with the states before and behind one more
 pub record IsInterrupted (size : ℕ) (asks : List Ask) (before after : Tale) : Type 0 where
-  pub front : List Ask
-  pub rest : List Ask
-  pub front_is : asks ≡ front ++ rest
-  pub each : ServesEach front (told_history before after)
   pub members : List (Option Standing)
-  pub found : AreFound size asks members
+  pub found : AreFound size asks (told_history before after) members
   pub ready : IsReady after.base after.log members
 
 -- the words are no command
