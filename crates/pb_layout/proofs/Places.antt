@@ -145,21 +145,25 @@ HasBackBehind-cases log op line place h = go (get-cases log op h.back h.op h.at)
     go (inr (last, same)) = inr (ap (is_back_of line) same ∙ h.covers)
 
 HasSyncBehind-push : (log : List LogOp) (op : LogOp) (line place : ℕ) → HasSyncBehind log line place → HasSyncBehind (log ++ op ∷ []) line place
+unfolding HasBackBehind-push
 HasSyncBehind-push log op line place h =
-    record { back = h.back; op = h.op; behind = h.behind; at = get-grown log op h.back h.op h.at; covers = h.covers; sync = h.sync; later = h.later; waits = get-grown log op h.sync Sync h.waits }
+    record { given = HasBackBehind-push log op line place h.given; sync = h.sync; later = h.later; waits = get-grown log op h.sync Sync h.waits }
 
 HasSyncBehind-last : (log : List LogOp) (op : LogOp) (line place : ℕ) → HasBackBehind log line place → op ≡ Sync → HasSyncBehind (log ++ op ∷ []) line place
+unfolding HasBackBehind-push
 HasSyncBehind-last log op line place h sync =
-    record { back = h.back; op = h.op; behind = h.behind; at = get-grown log op h.back h.op h.at; covers = h.covers; sync = length log; later = slice_get_within log h.back h.op h.at; waits = get-last log op ∙ ap Some sync }
+    record { given = HasBackBehind-push log op line place h; sync = length log; later = slice_get_within log h.back h.op h.at; waits = get-last log op ∙ ap Some sync }
 
 HasSyncBehind-cases : (log : List LogOp) (op : LogOp) (line place : ℕ) → HasSyncBehind (log ++ op ∷ []) line place → HasSyncBehind log line place ⊎ (HasBackBehind log line place × (op ≡ Sync))
-HasSyncBehind-cases log op line place h = go (get-cases log op h.back h.op h.at) (get-cases log op h.sync Sync h.waits)
+HasSyncBehind-cases log op line place h = go (get-cases log op h.given.back h.given.op h.given.at) (get-cases log op h.sync Sync h.waits)
   where
-    go : ((h.back < length log) × (slice_get log h.back ≡ Some h.op)) ⊎ ((h.back ≡ length log) × (op ≡ h.op)) → ((h.sync < length log) × (slice_get log h.sync ≡ Some Sync)) ⊎ ((h.sync ≡ length log) × (op ≡ Sync)) → HasSyncBehind log line place ⊎ (HasBackBehind log line place × (op ≡ Sync))
+    before : h.given.back < length log → slice_get log h.given.back ≡ Some h.given.op → HasBackBehind log line place
+    before inside at = record { back = h.given.back; op = h.given.op; behind = h.given.behind; at = at; covers = h.given.covers }
+
+    go : ((h.given.back < length log) × (slice_get log h.given.back ≡ Some h.given.op)) ⊎ ((h.given.back ≡ length log) × (op ≡ h.given.op)) → ((h.sync < length log) × (slice_get log h.sync ≡ Some Sync)) ⊎ ((h.sync ≡ length log) × (op ≡ Sync)) → HasSyncBehind log line place ⊎ (HasBackBehind log line place × (op ≡ Sync))
     go (inl (inside, at)) (inl (within, waits)) =
-        inl (record { back = h.back; op = h.op; behind = h.behind; at = at; covers = h.covers; sync = h.sync; later = h.later; waits = waits })
-    go (inl (inside, at)) (inr (last, sync)) =
-        inr (record { back = h.back; op = h.op; behind = h.behind; at = at; covers = h.covers }, sync)
+        inl (record { given = before inside at; sync = h.sync; later = h.later; waits = waits })
+    go (inl (inside, at)) (inr (last, sync)) = inr (before inside at, sync)
     go (inr (last, same)) (inl (within, waits)) = absurd (omega (arith, h.later))
     go (inr (last, same)) (inr (also, sync)) = absurd (omega (arith, h.later))
 
@@ -236,7 +240,7 @@ IsRoundAt-new base log line word to raises =
       };
       round = rw all refl;
       backed = ((λ e. absurd (false≢true e)), (λ h. absurd (past h.back h.op h.behind h.at)));
-      sealed = ((λ e. absurd (false≢true e)), (λ h. absurd (past h.back h.op h.behind h.at)));
+      sealed = ((λ e. absurd (false≢true e)), (λ h. absurd (past h.given.back h.given.op h.given.behind h.given.at)));
     }
   where
     says : (1 ≤ line) × (line ≤ 2) × (word ≡ 0) × (to ≡ word_of (contents base log) line 0 + 1)

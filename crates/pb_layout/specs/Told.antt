@@ -24,13 +24,9 @@ pub record HasBackBehind (log : List LogOp) (line place : ℕ) : Type 0 where
 
 -- and a `Sync` behind that: the first such moment is the round's
 pub record HasSyncBehind (log : List LogOp) (line place : ℕ) : Type 0 where
-  pub back : ℕ
-  pub op : LogOp
-  pub behind : place < back
-  pub at : slice_get log back ≡ Some op
-  pub covers : is_back_of line op ≡ true
+  pub given : HasBackBehind log line place
   pub sync : ℕ
-  pub later : back < sync
+  pub later : given.back < sync
   pub waits : slice_get log sync ≡ Some Sync
 
 -- the round of the index word at this place: its entries are told by the contents before the word

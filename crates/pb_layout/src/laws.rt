@@ -57,7 +57,9 @@ pub fn one_answer(image: &[Line])
 
 /// The history of a log is the one that its places tell: a round for each index word that raises its side's round number.
 pub fn history_by_places()
-    ensures { (base : List Line) (log : List LogOp) (from : ℕ) → from ≤ length log → TellsByPlaces base log from (history_of base log from) }
+    ensures { (base : List Line) (log : List LogOp) (from : ℕ)
+        → from ≤ length log
+        → TellsByPlaces base log from (history_of base log from) }
 {}
 
 /// A device at rest is ready with what it stands for, alone.
