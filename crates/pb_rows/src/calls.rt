@@ -4,52 +4,43 @@ ghost use Rattle.std.specs.Io.KnownBytes.{Appends, Keeps};
 ghost use Rattle.pb_pmem.specs.Count.{HasCause};
 ghost use Rattle.pb_io.specs.SinkBytes.{AppendsSome};
 
-use crate::fresh::words;
-use pb_broker::top;
+use crate::run::{FIRST, run_over};
+use crate::watched::{CountingDevice, LookingGate};
 use pb_image::Image;
-use pb_io::{ByteSink, ByteSource, Gate, OpenGate, Sink, SinkFault};
+use pb_io::{ByteSink, ByteSource, OpenGate, Sink, SinkFault};
 use std::sync::atomic::{AtomicU64, Ordering};
 use std::test::Fail;
 
-const FIRST: &str = "0 1 put 3 77\n0 2 get 3\n";
-
-// A gate that counts the requests that it let pass, and adds up their numbers.
-#[derive(Drop)]
-struct CountingGate {
-    requests: AtomicU64,
-    numbers: AtomicU64,
-}
-
-impl Gate for CountingGate {
-    fn before(&self, _client: u32, number: u64) {
-        self.requests.fetch_add(1, Ordering::SeqCst);
-        self.numbers.fetch_add(number, Ordering::SeqCst);
-    }
-
-    fn busy(&self, _client: u32, _number: u64) {}
-}
-
+// Formatting is 18 operations, and a round of this map is eight.
 #[test]
 fn the_gate_is_asked_before_each_request(rt: HostRuntime) -> Result<(), Fail> {
     let alloc = rt.alloc();
-    let command = words(alloc, "fresh map 1 4")?;
     let mut source = ByteSource::new(alloc, FIRST.as_bytes(), 4096, &[])?;
     let mut sink = ByteSink::new(alloc, 4096, 4096, &[])?;
-    let gate = CountingGate {
-        requests: AtomicU64::new(0),
-        numbers: AtomicU64::new(0),
+    let operations = AtomicU64::new(0);
+    let device = CountingDevice {
+        image: Image::zero(alloc, 4096)?,
+        operations: &operations,
     };
-    let done = top(
+    let gate = LookingGate {
+        operations: &operations,
+        calls: AtomicU64::new(0),
+        first: AtomicU64::new(0),
+        second: AtomicU64::new(0),
+    };
+    let done = run_over(
         alloc,
-        &command,
+        "fresh map 1 4",
         &mut source,
         &mut sink,
-        Image::zero(alloc, 4096)?,
+        device,
         &gate,
-    );
+    )?;
     assert_eq!(rt; done.status, 0);
-    assert_eq!(rt; gate.requests.load(Ordering::SeqCst), 2);
-    assert_eq!(rt; gate.numbers.load(Ordering::SeqCst), 3);
+    assert_eq!(rt; gate.calls.load(Ordering::SeqCst), 2);
+    assert_eq!(rt; gate.first.load(Ordering::SeqCst), 18);
+    assert_eq!(rt; gate.second.load(Ordering::SeqCst), 26);
+    assert_eq!(rt; operations.load(Ordering::SeqCst), 34);
     Ok(())
 }
 
@@ -92,20 +83,13 @@ impl Sink for KeepingSink {
 #[test]
 fn a_sink_is_asked_to_pass_on_what_it_took(rt: HostRuntime) -> Result<(), Fail> {
     let alloc = rt.alloc();
-    for (line, script) in [("fresh map 1 4", FIRST), ("now", "")] {
-        let command = words(alloc, line)?;
+    for (command, script) in [("fresh map 1 4", FIRST), ("now", "")] {
         let mut source = ByteSource::new(alloc, script.as_bytes(), 4096, &[])?;
         let mut sink = KeepingSink { faults: 0 };
-        let done = top(
-            alloc,
-            &command,
-            &mut source,
-            &mut sink,
-            Image::zero(alloc, 4096)?,
-            &OpenGate,
-        );
-        assert_eq!(rt; done.status, 5, "{line}");
-        assert_eq!(rt; sink.faults(), 1, "{line}");
+        let device = Image::zero(alloc, 4096)?;
+        let done = run_over(alloc, command, &mut source, &mut sink, device, &OpenGate)?;
+        assert_eq!(rt; done.status, 5, "{command}");
+        assert_eq!(rt; sink.faults(), 1, "{command}");
     }
     Ok(())
 }

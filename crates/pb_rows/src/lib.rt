@@ -7,3 +7,7 @@ mod calls;
 mod fresh;
 #[cfg(test)]
 mod log;
+#[cfg(test)]
+mod run;
+#[cfg(test)]
+mod watched;

@@ -1,13 +1,8 @@
 //! What `fresh map 1 SIZE` does to its device, operation by operation.
-use crate::fresh::words;
-use pb_broker::{Done, top};
+use crate::run::{FIRST, run};
 use pb_image::{Call, Fail as Failure, How, Image};
-use pb_io::{ByteSink, ByteSource, OpenGate};
 use pb_pmem::{Line, LogOp};
-use std::alloc::{AllocError, Global};
 use std::test::Fail;
-
-const FIRST: &str = "0 1 put 3 77\n0 2 get 3\n";
 
 const MAGIC: u64 = 0x3130_424D_4F43_4250;
 
@@ -72,20 +67,6 @@ fn rounds() -> [LogOp; 16] {
     ]
 }
 
-// A run of a command over a device, and what it printed.
-fn run(
-    alloc: Global,
-    command: &str,
-    script: &str,
-    device: Image,
-) -> Result<(Done<Image>, ByteSink), AllocError> {
-    let command = words(alloc, command)?;
-    let mut source = ByteSource::new(alloc, script.as_bytes(), 4096, &[])?;
-    let mut sink = ByteSink::new(alloc, 4096, 4096, &[])?;
-    let done = top(alloc, &command, &mut source, &mut sink, device, &OpenGate);
-    Ok((done, sink))
-}
-
 fn same(log: &[LogOp], front: &[LogOp], behind: &[LogOp]) -> bool {
     log.len() == front.len() + behind.len()
         && log.split_at(front.len()).0 == front
@@ -95,7 +76,13 @@ fn same(log: &[LogOp], front: &[LogOp], behind: &[LogOp]) -> bool {
 #[test]
 fn the_first_script_makes_these_operations(rt: HostRuntime) -> Result<(), Fail> {
     let alloc = rt.alloc();
-    let (done, _) = run(alloc, "fresh map 1 4", FIRST, Image::zero(alloc, 4096)?)?;
+    let (done, _) = run(
+        alloc,
+        "fresh map 1 4",
+        FIRST,
+        4096,
+        Image::zero(alloc, 4096)?,
+    )?;
     assert_eq!(rt; done.status, 0);
     assert!(rt; same(done.device.log(), &formatting(4), &rounds()));
     Ok(())
@@ -104,7 +91,7 @@ fn the_first_script_makes_these_operations(rt: HostRuntime) -> Result<(), Fail> 
 #[test]
 fn an_empty_script_formats_alone(rt: HostRuntime) -> Result<(), Fail> {
     let alloc = rt.alloc();
-    let (done, _) = run(alloc, "fresh map 1 1", "", Image::zero(alloc, 4096)?)?;
+    let (done, _) = run(alloc, "fresh map 1 1", "", 4096, Image::zero(alloc, 4096)?)?;
     assert_eq!(rt; done.status, 0);
     assert!(rt; same(done.device.log(), &formatting(1), &[]));
     Ok(())
@@ -113,8 +100,14 @@ fn an_empty_script_formats_alone(rt: HostRuntime) -> Result<(), Fail> {
 #[test]
 fn a_region_is_not_formatted_again(rt: HostRuntime) -> Result<(), Fail> {
     let alloc = rt.alloc();
-    let (first, _) = run(alloc, "fresh map 1 4", FIRST, Image::zero(alloc, 4096)?)?;
-    let (second, sink) = run(alloc, "fresh map 1 4", FIRST, first.device)?;
+    let (first, _) = run(
+        alloc,
+        "fresh map 1 4",
+        FIRST,
+        4096,
+        Image::zero(alloc, 4096)?,
+    )?;
+    let (second, sink) = run(alloc, "fresh map 1 4", FIRST, 4096, first.device)?;
     assert_eq!(rt; second.status, 7);
     assert_eq!(rt; sink.bytes(), b"taken\n".as_slice());
     assert!(rt; same(second.device.log(), &formatting(4), &rounds()));
@@ -141,7 +134,7 @@ fn a_device_fault_ends_the_run(rt: HostRuntime) -> Result<(), Fail> {
             how: How::Left,
         })?;
         device.failing(fails);
-        let (done, sink) = run(alloc, "fresh map 1 4", FIRST, device)?;
+        let (done, sink) = run(alloc, "fresh map 1 4", FIRST, 4096, device)?;
         assert_eq!(rt; done.status, 6, "operation {operations}");
         assert!(rt; sink.bytes().is_empty(), "operation {operations}");
         assert_eq!(rt;
