@@ -9,6 +9,7 @@ pub mod Histories
 pub mod Images
 pub mod Laid
 pub mod Laying
+pub mod NextCells
 pub mod NextEntries
 pub mod NextRecord
 pub mod Preparing

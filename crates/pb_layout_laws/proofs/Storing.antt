@@ -15,16 +15,18 @@ use Rattle.pb_pmem.proofs.Lines.{length-contents, contents-append, contents-none
 use Rattle.pb_object.specs.History.{Round, after_round}
 use Rattle.pb_object.specs.Object.{State, Registers, Items, Rising, Waits}
 use Rattle.pb_object.specs.Standing.{Standing, rounds_of}
+use Rattle.pb_layout.specs.declared.header.Header.{Header}
 use Rattle.pb_layout.specs.Header.{IsHeader}
 use Rattle.pb_layout.specs.Ready.{IsReady}
 use Rattle.pb_layout.specs.Region.{cell_place}
-use Rattle.pb_layout.specs.Represents.{header_for, HoldCells, Represents}
+use Rattle.pb_layout.specs.Represents.{header_for, Represents}
 use Rattle.pb_layout_laws.specs.Calls.{writes_from, staging}
-use Rattle.pb_layout_laws.specs.NextRecord.{IsNextRecord, AreBacked, HasCells}
+use Rattle.pb_layout_laws.specs.NextRecord.{IsNextRecord, next_position, HoldAdded, AreBacked, HasCells}
 use Rattle.pb_layout_laws.proofs.Entering.{IsOneOf, ready_bounds}
 use Rattle.pb_layout.proofs.OneAnswer.{record_fits}
 use Rattle.pb_layout_laws.proofs.Geometry.{parity-lt, cell_offset}
 use Rattle.pb_layout_laws.proofs.Images.{image_of, line_in, line_in-is, line_at-image_of}
+use Rattle.pb_layout_laws.proofs.NextCells.{after_entries-later, cells_later}
 use Rattle.pb_layout_laws.proofs.Rounds.{next_side}
 use Rattle.pb_layout_laws.proofs.Staging.{quiet_bounds, KeepsOutside, IsOld, HasNextCells, place_of, keeps_old, keeps_cells, quiet_writes}
 use Rattle.pb_layout_laws.proofs.Writes.{line_at-writes_here}
@@ -66,14 +68,14 @@ pub record IsTurned (base : List Line) (s : Standing) (round : Round) (lines : L
 -- Staging
 
 -- a clean cell is held as it is
-held_cells : (base : List Line) (log : List LogOp) (s : Standing) (state : State) (words : Words) → ((position : ℕ) → cell_place (header_for s) position < length base) → AllHeld base (reverse log) words → AreBacked log s state → HoldCells (contents base log) (header_for s) state → HoldCells (image_of (length base) words) (header_for s) state
-held_cells base log s (Registers registers) words fits held backed hold = tt
-held_cells base log s (Items size items) words fits held backed hold = tt
-held_cells base log s (Rising size items) words fits held backed hold = tt
-held_cells base log s (Waits size queue) words fits held backed hold =
-    λ place inside.
-    let line = cell_place (header_for s) (queue.taken + place) in
-    line_at-image_of (length base) words line (fits (queue.taken + place)) ∙ (line_in-is words line (line_at (contents base log) line) (λ word few. Held-clean base (reverse log) line word (words line word) (backed place inside) (held line word) ∙ ap (λ (l : List LogOp). word_of (contents base l) line word) (reverse-reverse log)) ∙ hold place inside)
+held_added : (base : List Line) (log : List LogOp) (head : Header) (from : ℕ) (state : State) (words : Words) → ((position : ℕ) → cell_place head position < length base) → AllHeld base (reverse log) words → AreBacked log head from state → HoldAdded (contents base log) head from state → HoldAdded (image_of (length base) words) head from state
+held_added base log head from (Registers registers) words fits held backed hold = tt
+held_added base log head from (Items size items) words fits held backed hold = tt
+held_added base log head from (Rising size items) words fits held backed hold = tt
+held_added base log head from (Waits size queue) words fits held backed hold =
+    λ place inside added.
+    let line = cell_place head (queue.taken + place) in
+    line_at-image_of (length base) words line (fits (queue.taken + place)) ∙ (line_in-is words line (line_at (contents base log) line) (λ word few. Held-clean base (reverse log) line word (words line word) (backed place inside added) (held line word) ∙ ap (λ (l : List LogOp). word_of (contents base l) line word) (reverse-reverse log)) ∙ hold place inside added)
 
 back_of_piece : (first count place : ℕ) → place < count → is_back_of (first + place) (Back first count) ≡ true
 back_of_piece first count place inside = grind (arith, nat_tests)
@@ -112,13 +114,18 @@ staged_bounds {base} {log} {s} {round} {lines} store =
     IsHeldOld : Words → Type 0
     IsHeldOld words = IsOld base s words × HasNextCells base s round words
 
+    -- what is held has the cells of items that waited before, since it stands for s, and those that the round adds, since they are clean
+    next_cells : (words : Words) → IsOld base s words → AllHeld base (reverse log) words → HasNextCells base s round words
+    next_cells words stands held =
+        cells_later (image_of (length base) words) (header_for s) s.state (after_round s round).state (after_entries-later s round.entries) stands.cells (held_added base log (header_for s) (next_position s.state) (after_round s round).state words (λ position. cell_fits base s position store.long stands.valid) held store.cells.backed store.cells.hold)
+
     entry : Bounds base (reverse log) (IsOld base s) (IsOld base s) IsHeldOld
     entry =
         let bounds = ready_bounds base log (Some s ∷ []) store.ready in
         record {
           all = λ words left. old words (bounds.all words left);
           last = λ words last. old words (bounds.last words last);
-          held = λ words held. (old words (bounds.held words held), held_cells base log s (after_round s round).state words (λ position. cell_fits base s position store.long (store_stands store).valid) held store.cells.backed store.cells.hold);
+          held = λ words held. (old words (bounds.held words held), next_cells words (old words (bounds.held words held)) held);
         }
 
     stands : Represents (contents base log) s

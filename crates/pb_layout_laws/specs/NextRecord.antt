@@ -1,5 +1,5 @@
 -- The record that a round makes of the one in use.
-use Rattle.std.specs.Prelude.{◌≡◌, ◌≢◌, ℕ, ◌+◌, ◌<◌, true, List, length, reverse, All}
+use Rattle.std.specs.Prelude.{◌≡◌, ◌≢◌, ℕ, ◌+◌, ◌<◌, ◌≤◌, true, List, length, reverse, slice_index, All}
 use Rattle.pb_pmem.specs.declared.line.Line.{Line}
 use Rattle.pb_pmem.specs.declared.log.LogOp.{LogOp}
 use Rattle.pb_pmem.specs.Contents.{contents}
@@ -8,12 +8,15 @@ use Rattle.pb_pmem.specs.Past.{is_clean}
 use Rattle.pb_object.specs.History.{Entry, Round, IsLegalRound, kept_by, after_round}
 use Rattle.pb_object.specs.Object.{State, Registers, Items, Rising, Waits}
 use Rattle.pb_object.specs.ObjectLines.{StandFor}
+use Rattle.pb_object.specs.Queue.{tail_of}
 use Rattle.pb_object.specs.Standing.{Standing, rounds_of}
+use Rattle.pb_layout.specs.Cell.{cell_line_of}
 use Rattle.pb_layout.specs.ClientLine.{client_line_of}
 use Rattle.pb_layout.specs.Header.{record_length}
 use Rattle.pb_layout.specs.Record.{count_line_of, client_line_at}
 use Rattle.pb_layout.specs.Region.{cell_place}
-use Rattle.pb_layout.specs.Represents.{header_for, record_of_side, object_parts, records_with, HoldCells}
+use Rattle.pb_layout.specs.Represents.{header_for, record_of_side, object_parts, records_with}
+use Rattle.pb_layout.specs.declared.header.Header.{Header}
 
 -- a client's line is that of its entry
 abbrev pub HasEntryLine : List Line → Entry → Type 0
@@ -32,15 +35,30 @@ pub record IsNextRecord (image : List Line) (s : Standing) (round : Round) (line
   pub others : (client : ℕ) → client < s.clients → All (IsOfOther client) round.entries → client_line_at lines client ≡ client_line_at (record_of_side image s round.side) client
   pub state : StandFor (object_parts (header_for s) (records_with image s round.side lines)) (after_round s round).state
 
--- the cells of a state's waiting items are written back
-abbrev pub AreBacked : List LogOp → Standing → State → Type 0
-AreBacked log s (Registers registers) = Unit {0}
-AreBacked log s (Items size items) = Unit {0}
-AreBacked log s (Rising size items) = Unit {0}
-AreBacked log s (Waits size queue) =
-    (place : ℕ) → place < length queue.items → is_clean (cell_place (header_for s) (queue.taken + place)) (reverse log) ≡ true
+-- the position of the next item that is put into a queue; 0 for the other objects
+abbrev pub next_position : State → ℕ
+next_position (Registers registers) = 0
+next_position (Items size items) = 0
+next_position (Rising size items) = 0
+next_position (Waits size queue) = tail_of queue
 
--- the cells of a queue's next state are there, and written back where they were written
+-- the waiting items that were put from a position on lie in the cells of their positions
+abbrev pub HoldAdded : List Line → Header → ℕ → State → Type 0
+HoldAdded image head from (Registers registers) = Unit {0}
+HoldAdded image head from (Items size items) = Unit {0}
+HoldAdded image head from (Rising size items) = Unit {0}
+HoldAdded image head from (Waits size queue) =
+    (place : ℕ) → place < length queue.items → from ≤ queue.taken + place → line_at image (cell_place head (queue.taken + place)) ≡ cell_line_of (queue.taken + place) (slice_index queue.items place)
+
+-- .. and these cells are written back where the log wrote them
+abbrev pub AreBacked : List LogOp → Header → ℕ → State → Type 0
+AreBacked log head from (Registers registers) = Unit {0}
+AreBacked log head from (Items size items) = Unit {0}
+AreBacked log head from (Rising size items) = Unit {0}
+AreBacked log head from (Waits size queue) =
+    (place : ℕ) → place < length queue.items → from ≤ queue.taken + place → is_clean (cell_place head (queue.taken + place)) (reverse log) ≡ true
+
+-- each item that a round puts into a queue has its cell, written back; nothing is asked of the cells of the items before
 pub record HasCells (base : List Line) (log : List LogOp) (s : Standing) (round : Round) : Type 0 where
-  pub hold : HoldCells (contents base log) (header_for s) (after_round s round).state
-  pub backed : AreBacked log s (after_round s round).state
+  pub hold : HoldAdded (contents base log) (header_for s) (next_position s.state) (after_round s round).state
+  pub backed : AreBacked log (header_for s) (next_position s.state) (after_round s round).state
