@@ -1,5 +1,5 @@
 -- What a crash leaves behind several calls, one behind the other.
-use Rattle.std.proofs.Common.{◌≡◌, ℕ, zero, suc, ◌⊎◌, List, [], ◌∷◌, ◌++◌, length, take, Option, Some, IfSome, ap, subst, sym, refl, ◌∙◌, inl, inr}
+use Rattle.std.proofs.Common.{◌≡◌, ℕ, zero, suc, ◌⊎◌, List, [], ◌∷◌, ◌++◌, length, take, Option, Some, IfSome, ap, subst, sym, refl, ◌∙◌, inl, inr, arith}
 use Rattle.std.proofs.lemmas.List.{append-nil, append_assoc}
 use Rattle.pb_pmem.specs.declared.line.Line.{Line}
 use Rattle.pb_pmem.specs.declared.log.LogOp.{LogOp}
@@ -17,10 +17,11 @@ use Rattle.pb_layout.specs.Represents.{Represents}
 use Rattle.pb_layout.proofs.LogHistories.{history_behind-none}
 use Rattle.pb_layout.proofs.OneAnswer.{region_from}
 use Rattle.std.proofs.lemmas.List.Elements.{All-nil}
-use Rattle.pb_layout_laws.specs.Exits.{Leaves, sealed_round}
-use Rattle.pb_layout_laws.proofs.Compose.{covers-append}
+use Rattle.pb_layout_laws.specs.Exits.{IsStepwise, Leaves, sealed_round}
+use Rattle.pb_layout_laws.proofs.Compose.{covers-append, stepwise-append}
 use Rattle.pb_layout_laws.proofs.Fronts.{covers_by_fronts}
-use Rattle.pb_layout_laws.proofs.Histories.{rounds_in-append, state_after-append}
+use Rattle.pb_layout_laws.proofs.Histories.{rounds_in-append, state_after-append, AreSealed-append}
+use Rattle.pb_layout_laws.proofs.Stepwise.{covered_stepwise}
 use Rattle.pb_pair.specs.Calls.{with_ops}
 use Rattle.pb_pair.specs.Safe.{held, IsReadyWith, IsLeftSafe, IsInDoubt}
 use Rattle.pb_broker.specs.History.{run_of}
@@ -43,14 +44,16 @@ take_none (suc count) = refl
 nothing_since : (base : List Line) (log : List LogOp) (s : Standing) → IsReady base log (Some s ∷ []) → Leaves base log [] s [] (Some s ∷ [])
 nothing_since base log s ready =
     let left : (image : List Line) → IsLeft base (log ++ []) image → Represents image s = λ image h. only_member image s (ready.images [] (All-nil (IsAllowed (Some s ∷ []))) image h) in
+    let covers : Covers base (log ++ []) (length log) s [] = covers_by_fronts base log [] s [] (sym (history_behind-none (contents base log) [])) (λ count image h. inl (record {
+      kept = [];
+      lost = [];
+      whole = ap (history_behind (contents base log) []) (take_none count) ∙ history_behind-none (contents base log) [];
+      unsealed = tt;
+      stands = left image (subst (λ (f : List LogOp). IsLeft base (log ++ f) image) (take_none count) h);
+    })) (inl (subst (λ (l : List LogOp). Represents (contents base l) s) (sym (append-nil log)) (only_member (contents base log) s ready.holds))) in
     record {
-      covers = covers_by_fronts base log [] s [] (sym (history_behind-none (contents base log) [])) (λ count image h. inl (record {
-        kept = [];
-        lost = [];
-        whole = ap (history_behind (contents base log) []) (take_none count) ∙ history_behind-none (contents base log) [];
-        unsealed = tt;
-        stands = left image (subst (λ (f : List LogOp). IsLeft base (log ++ f) image) (take_none count) h);
-      })) (inl (subst (λ (l : List LogOp). Represents (contents base l) s) (sym (append-nil log)) (only_member (contents base log) s ready.holds)));
+      covers = covers;
+      stepwise = covered_stepwise covers (omega arith);
       ready = subst (λ (l : List LogOp). IsReady base l (Some s ∷ [])) (sym (append-nil log)) ready;
     }
 
@@ -75,6 +78,7 @@ safe_then tale mid new s front back between members first sealed holds second =
       told = second.told ∙ ap (λ (l : List LogOp). Some (record tale { log = l })) joined;
       leaves = record {
         covers = subst (λ (l : List LogOp). Covers tale.base l (length tale.log) s (front ++ back)) joined (covers-append tale.base (tale.log ++ first.ops) second.ops (length tale.log) s front back (record { first = first.leaves.covers; sealed = sealed; holds = holds; second = second.leaves.covers }));
+        stepwise = subst (λ (l : List LogOp). IsStepwise tale.base l (length tale.log)) joined (stepwise-append tale.base (tale.log ++ first.ops) second.ops (length tale.log) first.leaves.covers.within (subst AreSealed first.leaves.covers.told sealed) first.leaves.stepwise second.leaves.stepwise);
         ready = subst (λ (l : List LogOp). IsReady tale.base l members) joined second.leaves.ready;
       };
     }
@@ -83,10 +87,6 @@ safe_then tale mid new s front back between members first sealed holds second =
 pub shown : (Shown : Tale → Type 0) (members : List (Option Standing)) (device : Device) (tale : Tale) → WhereReadyWith members device Shown → device.told ≡ Some tale → IsReadyWith members tale → Shown tale
 shown Shown members device tale holds told ready =
     subst (λ (o : Option Tale). IfSome o (λ t. IsReadyWith members t → Shown t)) told holds ready
-
-AreSealed-append : (a b : List LoggedRound) → AreSealed a → AreSealed b → AreSealed (a ++ b)
-AreSealed-append [] b left right = right
-AreSealed-append (r ∷ a) b left right = (left.0, AreSealed-append a b left.1 right)
 
 -- behind sealed rounds the device holds the state behind them
 behind_holds : (tale : Tale) (mid : Device) (s : Standing) (rounds : History) (behind : IsSealedBehind tale mid s rounds) → Represents (held (with_ops behind.left.ops tale)) (state_after s (rounds_in behind.history))

@@ -72,6 +72,7 @@ module _ (size : ℕ) (tale : Tale) (new : Device) where
     ops = left.ops;
     grown = refl;
     covers = subst (Covers tale.base (tale.log ++ left.ops) (length tale.log) (fresh_map size)) left.leaves.covers.told left.leaves.covers;
+    stepwise = left.leaves.stepwise;
     legal = subst (λ (h : List LoggedRound). IsLegal (fresh_map size) (rounds_in h)) left.leaves.covers.told legal;
   }
 

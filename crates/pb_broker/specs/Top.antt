@@ -13,6 +13,7 @@ use Rattle.pb_layout.specs.Covers.{Covers}
 use Rattle.pb_layout.specs.Damage.{HasRegion}
 use Rattle.pb_layout.specs.LogHistory.{rounds_in, AreSealed, history_of}
 use Rattle.pb_layout.specs.Ready.{IsReady}
+use Rattle.pb_layout_laws.specs.Exits.{IsStepwise}
 use Rattle.pb_pair.specs.Calls.{with_ops}
 use Rattle.pb_pair.specs.Format.{HadNoRegion}
 use Rattle.pb_broker.specs.declared.source.TheConstants.{SOURCE_LIMIT}
@@ -79,11 +80,13 @@ WhereReady call Shown =
 abbrev pub told_history : Tale → Tale → History
 told_history before after = rounds_in (history_of after.base after.log (length before.log))
 
--- the call only added to the log; what it added is covered from the fresh map on by the history that the log tells, which is legal
+-- the call only added to the log; what it added is covered from the fresh map on by the history that the log tells, which is legal;
+-- at each moment all rounds so far are sealed, but perhaps the last one: a request is durable before the round of the next one is there
 pub record IsCoveredCall (size : ℕ) (before after : Tale) : Type 0 where
   pub ops : List LogOp
   pub grown : after ≡ with_ops ops before
   pub covers : Covers after.base after.log (length before.log) (fresh_map size) (history_of after.base after.log (length before.log))
+  pub stepwise : IsStepwise after.base after.log (length before.log)
   pub legal : IsLegal (fresh_map size) (told_history before after)
 
 -- whatever the status: each moment of the call is covered, and the device is ready; it is ready with nothing where it holds nothing

@@ -1,4 +1,4 @@
--- Coverings one behind the other are a covering.
+-- Coverings one behind the other are a covering, and stepwise behind stepwise is stepwise.
 use Rattle.std.proofs.Common.{◌≡◌, ℕ, ◌-◌, ◌<◌, ◌≤◌, ◌⊎◌, false, List, [], ◌++◌, length, take, drop, Option, Some, None, ap, subst, sym, refl, ◌∙◌, inl, inr, arith}
 use Rattle.std.specs.List.{list_any}
 use Rattle.std.proofs.Math.Seq.{take-append_seam, drop-append_seam, take-append-add, take-length}
@@ -17,7 +17,8 @@ use Rattle.pb_layout.specs.Ready.{StandsFor}
 use Rattle.pb_layout.specs.Represents.{Represents}
 use Rattle.pb_layout.proofs.OneAnswer.{region_from}
 use Rattle.pb_layout.proofs.OneStanding.{one_standing}
-use Rattle.pb_layout_laws.proofs.Histories.{state_after-rounds_in, sealed-none_lost, history_behind-unsealed, history_of-second, history_of-front}
+use Rattle.pb_layout_laws.specs.Exits.{IsOneOpen, IsStepwise}
+use Rattle.pb_layout_laws.proofs.Histories.{state_after-rounds_in, sealed-none_lost, AreSealed-append, history_behind-unsealed, history_of-second, history_of-front}
 
 -- lines stand for one thing at most
 pub stands_for_one : (image : List Line) (m n : Option Standing) → StandsFor image m → StandsFor image n → m ≡ n
@@ -184,3 +185,32 @@ covers-compose base log from middle s front back first sealed holds second =
 
     at : Covers base (a ++ b) (length a) (state_after s (rounds_in front)) back
     at = rw (whole, long) second
+
+-- One round after the other
+
+-- one open round behind sealed ones
+one_open-behind : (front rounds : List LoggedRound) → AreSealed front → IsOneOpen rounds → IsOneOpen (front ++ rounds)
+one_open-behind front rounds sealed one = record {
+  front = front ++ one.front;
+  last = one.last;
+  whole = ap (λ (l : List LoggedRound). front ++ l) one.whole ∙ sym (append_assoc front one.front one.last);
+  sealed = AreSealed-append front one.front sealed one.sealed;
+  few = one.few;
+}
+
+-- where all rounds of the first log are sealed, stepwise behind stepwise is stepwise
+pub stepwise-append : (base : List Line) (a b : List LogOp) (from : ℕ) → from ≤ length a → AreSealed (history_of base a from) → IsStepwise base a from → IsStepwise base (a ++ b) (length a) → IsStepwise base (a ++ b) from
+stepwise-append base a b from within sealed first second moment low high =
+    go (cases_lt moment (length a))
+  where
+    IsFine : List LogOp → Type 0
+    IsFine past = IsOneOpen (history_of base past from)
+
+    go : (moment < length a) ⊎ (length a ≤ moment) → IsFine (take moment (a ++ b))
+    go (inl before) =
+        subst IsFine (sym (take-append-le moment a b (omega (arith, before)))) (first moment low (omega (arith, before)))
+    go (inr behind) =
+        let rest : ℕ = moment - length a in
+        let here : take moment (a ++ b) ≡ a ++ take rest b = ap (λ (n : ℕ). take n (a ++ b)) (omega (arith, behind)) ∙ take-append-add a b rest in
+        let one : IsOneOpen (history_of base (a ++ take rest b) (length a)) = subst (λ (l : List LogOp). IsOneOpen (history_of base l (length a))) here (second moment behind high) in
+        subst IsFine (sym here) (subst IsOneOpen (sym (history_of-front base a (take rest b) from within sealed)) (one_open-behind (history_of base a from) (history_of base (a ++ take rest b) (length a)) sealed one))

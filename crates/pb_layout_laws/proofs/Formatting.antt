@@ -38,6 +38,7 @@ use Rattle.pb_layout_laws.proofs.Laid.{HasLaid, Prepared, Formed, giving_bounds,
 use Rattle.pb_layout_laws.proofs.Laying.{laying, IsLaidIn, laid_in}
 use Rattle.pb_layout_laws.proofs.Preparing.{nothing_of_bare, bare_start, nothing_at_start, quiet_front, quiet_leaves, giving, preparing-is, preparing_quiet, laying_quiet}
 use Rattle.pb_layout_laws.proofs.Quiet.{IsQuiet, Bare, quiet-records, quiet-no_sync, quiet-bare, HasGiven, push_write, push_back, push_fence, push_sync}
+use Rattle.pb_layout_laws.proofs.Stepwise.{covered_stepwise}
 
 -- Where formatting may be left from its magic on
 
@@ -421,6 +422,7 @@ rest_covers base log head first second rest is follows =
 rest_leaves : (base : List Line) (log : List LogOp) (head : Header) (first second : List Line) (rest : List LogOp) → IsFormatting base log head first second → IsRest rest → Leaves base log (preparing head first second ++ magic_word ∷ rest) (empty_for head) [] (None ∷ Some (empty_for head) ∷ [])
 rest_leaves base log head first second rest is follows = record {
   covers = rest_covers base log head first second rest is follows;
+  stepwise = covered_stepwise (rest_covers base log head first second rest is follows) (omega arith);
   ready = ready_from_bounds base (log ++ (preparing head first second ++ magic_word ∷ rest)) members (record {
     shape = refl;
     settled = PreparedOrFormed head lines;
@@ -474,6 +476,7 @@ cut_off_while_appearing base log tail head first second valid long empty ready c
 pub makes_a_region : (base : List Line) (log : List LogOp) (head : Header) (first second : List Line) → IsHeader head → length base ≡ LINES → AreEmptyRecords head first second → IsReady base log (None ∷ []) → Leaves base log (formatting head first second) (empty_for head) [] (Some (empty_for head) ∷ [])
 makes_a_region base log head first second valid long empty ready = record {
   covers = rest_covers base log head first second (magic_back ∷ Sync ∷ []) is (inr (inr (inr refl)));
+  stepwise = covered_stepwise (rest_covers base log head first second (magic_back ∷ Sync ∷ []) is (inr (inr (inr refl)))) (omega arith);
   ready = ready_from_bounds base (log ++ (preparing head first second ++ appearing)) members (record {
     shape = tt;
     settled = Formed head lines;

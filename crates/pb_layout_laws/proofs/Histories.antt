@@ -39,6 +39,11 @@ sealed-none_lost [] [] sealed unsealed = refl
 sealed-none_lost [] (logged ∷ lost) sealed unsealed = absurd (false≢true (sym unsealed.0 ∙ sealed.0))
 sealed-none_lost (logged ∷ kept) lost sealed unsealed = sealed-none_lost kept lost sealed.1 unsealed
 
+-- sealed rounds, one behind the other
+pub AreSealed-append : (a b : List LoggedRound) → AreSealed a → AreSealed b → AreSealed (a ++ b)
+AreSealed-append [] b left right = right
+AreSealed-append (logged ∷ a) b left right = (left.0, AreSealed-append a b left.1 right)
+
 -- unsealed rounds, one behind the other
 pub AreUnsealed-append : (a b : List LoggedRound) → AreUnsealed a → AreUnsealed b → AreUnsealed (a ++ b)
 AreUnsealed-append [] b left right = right

@@ -17,6 +17,7 @@ pub mod Quiet
 pub mod Rounds
 pub mod Settling
 pub mod Staging
+pub mod Stepwise
 pub mod StoreExits
 pub mod Storing
 pub mod Switching

@@ -15,6 +15,7 @@ use Rattle.pb_pmem.proofs.Bounds.{Bounds-weaker}
 use Rattle.pb_pmem.proofs.Rest.{IsLeft-contents}
 use Rattle.pb_object.specs.Codes.{kind_code}
 use Rattle.pb_object.specs.Standing.{Standing, side_count}
+use Rattle.pb_layout.specs.Covers.{Covers}
 use Rattle.pb_layout.specs.Damage.{HasRegion}
 use Rattle.pb_layout.specs.Header.{IsHeader, record_length, first_record_line}
 use Rattle.pb_layout.specs.Ready.{StandsForOne, IsReady}
@@ -28,6 +29,7 @@ use Rattle.pb_layout_laws.proofs.Geometry.{record_behind}
 use Rattle.pb_layout_laws.proofs.Images.{image_of, word_of-image_of}
 use Rattle.pb_layout_laws.proofs.Laying.{laying, fronting}
 use Rattle.pb_layout_laws.proofs.Quiet.{IsQuiet, Bare, quiet-records, quiet-no_sync, quiet-bare, cut_off-quiet}
+use Rattle.pb_layout_laws.proofs.Stepwise.{covered_stepwise}
 use Rattle.pb_layout_laws.proofs.Writes.{writes_from-none, writes_from-more}
 
 -- No region
@@ -76,7 +78,8 @@ quiet_front base log front s some ready quiet image left =
 -- quiet operations leave no region
 pub quiet_leaves : (base : List Line) (log ops : List LogOp) (s : Standing) → 0 < length base → IsReady base log (None ∷ []) → All IsQuiet ops → Leaves base log ops s [] (None ∷ [])
 quiet_leaves base log ops s some ready quiet = record {
-  covers = covers_by_fronts base log ops s [] (sym (quiet-records (contents base log) ops quiet)) (λ count. quiet_front base log (take count ops) s some ready (All-take IsQuiet count ops quiet)) (inr (nothing_at_start base log ready, quiet-no_sync ops quiet, nothing_behind base log ops some ready quiet (contents base (log ++ ops)) (IsLeft-contents base (log ++ ops))));
+  covers = covers;
+  stepwise = covered_stepwise covers (omega arith);
   ready = ready_from_bounds base (log ++ ops) (None ∷ []) (record {
     shape = tt;
     settled = Bare;
@@ -85,6 +88,9 @@ quiet_leaves base log ops s some ready quiet = record {
     keeps = λ line word to allowed. absurd allowed;
   });
 }
+  where
+    covers : Covers base (log ++ ops) (length log) s []
+    covers = covers_by_fronts base log ops s [] (sym (quiet-records (contents base log) ops quiet)) (λ count. quiet_front base log (take count ops) s some ready (All-take IsQuiet count ops quiet)) (inr (nothing_at_start base log ready, quiet-no_sync ops quiet, nothing_behind base log ops some ready quiet (contents base (log ++ ops)) (IsLeft-contents base (log ++ ops))))
 
 -- What preparing does
 

@@ -36,6 +36,7 @@ use Rattle.pb_layout_laws.proofs.Compose.{stands_for_one}
 use Rattle.pb_layout_laws.proofs.Fronts.{IsAsAtStart, IsCoveredFront, covers_by_fronts}
 use Rattle.pb_layout_laws.proofs.Images.{image_of, word_of-past, word_of-image_of_or, left_image}
 use Rattle.pb_layout_laws.proofs.Rounds.{next_side, next_rounds}
+use Rattle.pb_layout_laws.proofs.Stepwise.{covered_stepwise}
 
 -- what settling may do to a region that stands for s
 abbrev pub Settles : Standing → LogOp → Type 0
@@ -478,6 +479,7 @@ settling_cut_off base log ops s members ready stands cut =
     let parts = cut_settling s ops cut in
     record {
       covers = settling_covers base log ops s members ready stands parts.0 parts.1;
+      stepwise = covered_stepwise (settling_covers base log ops s members ready stands parts.0 parts.1) (omega arith);
       ready = ready_is_kept base log ops members ready (settling_is_allowed members (contents base log) s ops ready.holds stands parts.0);
     }
 
@@ -495,6 +497,7 @@ settling_may_be_repeated base log ops s ready how moment low image left =
 pub settling_leaves_one : (base : List Line) (log : List LogOp) (s : Standing) (members : List (Option Standing)) → IsReady base log members → Represents (contents base log) s → Leaves base log (settling (header_for s) (rounds_of s 0) (rounds_of s 1)) s [] (Some s ∷ [])
 settling_leaves_one base log s members ready stands = record {
   covers = settling_covers base log (settling_of s) s members ready stands (settling_settles s) (inr refl);
+  stepwise = covered_stepwise (settling_covers base log (settling_of s) s members ready stands (settling_settles s) (inr refl)) (omega arith);
   ready = record {
     shape = tt;
     holds = inl (still_stands base log (settling_of s) s stands (settling_settles s));

@@ -31,13 +31,14 @@ use Rattle.pb_layout.proofs.OneAnswer.{record_fits}
 use Rattle.pb_layout.proofs.Records.{piece_is}
 use Rattle.pb_layout.proofs.Turn.{same_piece}
 use Rattle.pb_layout_laws.specs.Calls.{writes_from, staging, switching, MayAdd, IsCutOff}
-use Rattle.pb_layout_laws.specs.Exits.{Leaves, LeavesInDoubt, sealed_round}
+use Rattle.pb_layout_laws.specs.Exits.{IsStepwise, Leaves, LeavesInDoubt, sealed_round}
 use Rattle.pb_layout_laws.proofs.Entering.{IsOneOf, ready_bounds, KeepsSettled, ready_from_bounds, image_from_bounds}
 use Rattle.pb_layout_laws.proofs.Fronts.{IsCoveredFront, covers_by_fronts}
 use Rattle.pb_layout_laws.proofs.Geometry.{parity-lt, spare_is_other}
 use Rattle.pb_layout_laws.proofs.NextEntries.{next_round}
 use Rattle.pb_layout_laws.proofs.Rounds.{next_side, next_rounds, next_rounds_other}
 use Rattle.pb_layout_laws.proofs.Staging.{IsQuiet, quiet_staging, quiet_cut_off, quiet_history, quiet_bounds, IsOld, place_of, keeps_old, sides_few}
+use Rattle.pb_layout_laws.proofs.Stepwise.{covered_stepwise}
 use Rattle.pb_layout_laws.proofs.Storing.{IsStore, store_stands, IsStaged, IsIndex, IsTurning, IsTurned, contents_staging, staged_bounds}
 use Rattle.pb_layout_laws.proofs.Switching.{old_word, settling_round, keeps_one, turned_new, turning_two}
 use Rattle.pb_layout_laws.proofs.Writes.{line_at-writes_other, line_at-writes_here}
@@ -81,8 +82,10 @@ pub store_while_staging : {base : List Line} {log : List LogOp} {s : Standing} {
 store_while_staging {base} {log} {s} {round} {lines} store ops cut =
     let quiet = quiet_cut_off (place_of s round) (length lines) (staging (place_of s round) lines) ops (quiet_staging (place_of s round) lines) cut in
     let bounds = quiet_old store ops quiet in
+    let covers = covers_by_fronts base log ops s [] (sym (quiet_history (place_of s round) (length lines) (contents base log) ops quiet)) (λ count. quiet_front store (take count ops) (All-take (IsQuiet (place_of s round) (length lines)) count ops quiet)) (inl (image_from_bounds (log ++ ops) (λ i. Represents i s) bounds (λ words stands. stands) (contents base (log ++ ops)) (IsLeft-contents base (log ++ ops)))) in
     record {
-      covers = covers_by_fronts base log ops s [] (sym (quiet_history (place_of s round) (length lines) (contents base log) ops quiet)) (λ count. quiet_front store (take count ops) (All-take (IsQuiet (place_of s round) (length lines)) count ops quiet)) (inl (image_from_bounds (log ++ ops) (λ i. Represents i s) bounds (λ words stands. stands) (contents base (log ++ ops)) (IsLeft-contents base (log ++ ops))));
+      covers = covers;
+      stepwise = covered_stepwise covers (omega arith);
       ready = old_ready base (log ++ ops) s (IsOld base s) (IsOld base s) (IsOld base s) (omega (arith, store.long)) bounds (λ words w. w) (λ words w. w) (λ words w. w);
     }
 
@@ -465,6 +468,17 @@ store_covers : {base : List Line} {log : List LogOp} {s : Standing} {round : Rou
 store_covers {base} {log} {s} {round} {lines} store reach =
     covers_by_fronts base log (staging (place_of s round) lines ++ tail_to round.side (index_of s round) reach) s (rounds_to round reach) (sym (store_history store reach)) (store_front store reach) (inl (subst (λ (l : List LogOp). Represents (contents base l) (state_after s (rounds_in (rounds_to round reach)))) (append_assoc log (staging (place_of s round) lines) (tail_to round.side (index_of s round) reach)) (ends store reach)))
 
+-- a store tells one round at most, so it is stepwise
+one_round : (round : Round) (reach : Reach) → length (rounds_to round reach) ≤ 1
+one_round round called = omega arith
+one_round round indexed = omega arith
+one_round round given = omega arith
+one_round round fenced = omega arith
+one_round round synced = omega arith
+
+store_stepwise : {base : List Line} {log : List LogOp} {s : Standing} {round : Round} {lines : List Line} (store : IsStore base log s round lines) (reach : Reach) → IsStepwise base (log ++ (staging (place_of s round) lines ++ tail_to round.side (index_of s round) reach)) (length log)
+store_stepwise {base} {log} {s} {round} {lines} store reach = covered_stepwise (store_covers store reach) (one_round round reach)
+
 store_ready : {base : List Line} {log : List LogOp} {s : Standing} {round : Round} {lines : List Line} (store : IsStore base log s round lines) (reach : Reach) → IsReady base (log ++ (staging (place_of s round) lines ++ tail_to round.side (index_of s round) reach)) (Some s ∷ Some (after_round s round) ∷ [])
 store_ready {base} {log} {s} {round} {lines} store reach =
     ready_from_bounds base (log ++ (staging (place_of s round) lines ++ tail_to round.side (index_of s round) reach)) (Some s ∷ Some (after_round s round) ∷ []) (record {
@@ -478,7 +492,7 @@ store_ready {base} {log} {s} {round} {lines} store reach =
 in_doubt : {base : List Line} {log : List LogOp} {s : Standing} {round : Round} {lines : List Line} (store : IsStore base log s round lines) (reach : Reach) → LeavesInDoubt base log (staging (place_of s round) lines ++ tail_to round.side (index_of s round) reach) (tail_to round.side (index_of s round) reach) s round
 in_doubt {base} {log} {s} {round} {lines} store reach = record {
   history = rounds_to round reach;
-  leaves = record { covers = store_covers store reach; ready = store_ready store reach };
+  leaves = record { covers = store_covers store reach; stepwise = store_stepwise store reach; ready = store_ready store reach };
   rounds = told reach;
 }
   where
@@ -497,5 +511,6 @@ store_while_switching {base} {log} {s} {round} {lines} store tail cut =
 pub store_whole : {base : List Line} {log : List LogOp} {s : Standing} {round : Round} {lines : List Line} → IsStore base log s round lines → Leaves base log (staging (place_of s round) lines ++ switching round.side (index_of s round)) s (sealed_round round ∷ []) (Some (after_round s round) ∷ [])
 store_whole {base} {log} {s} {round} {lines} store = record {
   covers = store_covers store synced;
+  stepwise = store_stepwise store synced;
   ready = old_ready base (log ++ (staging (place_of s round) lines ++ switching round.side (index_of s round))) (after_round s round) (IsTurned base s round lines) (IsTurned base s round lines) (IsTurned base s round lines) (omega (arith, store.long)) (subst (λ (l : List LogOp). Bounds base l (IsTurned base s round lines) (IsTurned base s round lines) (IsTurned base s round lines)) (sym (ap reverse (sym (append_assoc log (staging (place_of s round) lines) (switching round.side (index_of s round)))) ∙ reverse-append (staged_log log s round lines) (switching round.side (index_of s round)))) (at_synced store)) (turned_new store) (turned_new store) (turned_new store);
 }

@@ -1,5 +1,5 @@
 -- What holds where a call on a region is left.
-use Rattle.std.specs.Prelude.{◌≡◌, ◌⊎◌, ℕ, ◌<◌, ◌≤◌, true, List, [], ◌∷◌, ◌++◌, length, Option, Some, None, ◌==◌, if◌then◌else◌}
+use Rattle.std.specs.Prelude.{◌≡◌, ◌⊎◌, ℕ, ◌<◌, ◌≤◌, true, List, [], ◌∷◌, ◌++◌, length, take, Option, Some, None, ◌==◌, if◌then◌else◌}
 use Rattle.pb_pmem.specs.declared.line.Line.{Line}
 use Rattle.pb_pmem.specs.declared.log.LogOp.{LogOp}
 use Rattle.pb_pmem.specs.Contents.{contents}
@@ -11,7 +11,7 @@ use Rattle.pb_object.specs.ObjectLines.{StandFor}
 use Rattle.pb_object.specs.Standing.{Standing, side_count, empty_standing}
 use Rattle.pb_layout.specs.Covers.{Covers}
 use Rattle.pb_layout.specs.Header.{record_length}
-use Rattle.pb_layout.specs.LogHistory.{LoggedRound, rounds_in}
+use Rattle.pb_layout.specs.LogHistory.{LoggedRound, rounds_in, AreSealed, history_of}
 use Rattle.pb_layout.specs.Ready.{IsReady}
 use Rattle.pb_layout.specs.Record.{client_line_at}
 use Rattle.pb_layout.specs.Represents.{Represents, object_parts}
@@ -26,9 +26,24 @@ abbrev pub AlwaysStandFor : List Line → List LogOp → List LogOp → Standing
 AlwaysStandFor base log ops s =
     (moment : ℕ) → length log ≤ moment → (image : List Line) → MayLeave base (log ++ ops) moment image → Represents image s
 
--- a call that made these operations behind a log is covered from s on by this history, and leaves the device ready with these members
+-- all of these rounds are sealed, but perhaps the last one
+pub record IsOneOpen (rounds : List LoggedRound) : Type 0 where
+  pub front : List LoggedRound
+  pub last : List LoggedRound
+  pub whole : rounds ≡ front ++ last
+  pub sealed : AreSealed front
+  pub few : length last ≤ 1
+
+-- so it is of the rounds so far at each moment behind the first `from` operations: a round is sealed before the index word of the next
+-- one is written
+abbrev pub IsStepwise : List Line → List LogOp → ℕ → Type 0
+IsStepwise base log from = (moment : ℕ) → from ≤ moment → moment ≤ length log → IsOneOpen (history_of base (take moment log) from)
+
+-- a call that made these operations behind a log is covered from s on by this history, does one round after the other, and leaves the
+-- device ready with these members
 pub record Leaves (base : List Line) (log ops : List LogOp) (s : Standing) (history : List LoggedRound) (members : List (Option Standing)) : Type 0 where
   pub covers : Covers base (log ++ ops) (length log) s history
+  pub stepwise : IsStepwise base (log ++ ops) (length log)
   pub ready : IsReady base (log ++ ops) members
 
 -- a round that is sealed, and the one-round histories that a store may tell
