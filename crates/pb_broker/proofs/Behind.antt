@@ -17,7 +17,7 @@ use Rattle.pb_layout.specs.Represents.{Represents}
 use Rattle.pb_layout.proofs.LogHistories.{history_behind-none}
 use Rattle.pb_layout.proofs.OneAnswer.{region_from}
 use Rattle.std.proofs.lemmas.List.Elements.{All-nil}
-use Rattle.pb_layout_laws.specs.Exits.{IsStepwise, Leaves, sealed_round}
+use Rattle.pb_layout_laws.specs.Exits.{IsStepwise, IsExit, sealed_round}
 use Rattle.pb_layout_laws.proofs.Compose.{covers-append, stepwise-append}
 use Rattle.pb_layout_laws.proofs.Fronts.{covers_by_fronts}
 use Rattle.pb_layout_laws.proofs.Histories.{rounds_in-append, state_after-append, AreSealed-append}
@@ -41,7 +41,7 @@ take_none zero = refl
 take_none (suc count) = refl
 
 -- nothing was done to a device that is ready with s
-nothing_since : (base : List Line) (log : List LogOp) (s : Standing) → IsReady base log (Some s ∷ []) → Leaves base log [] s [] (Some s ∷ [])
+nothing_since : (base : List Line) (log : List LogOp) (s : Standing) → IsReady base log (Some s ∷ []) → IsExit base log [] s [] (Some s ∷ [])
 nothing_since base log s ready =
     let left : (image : List Line) → IsLeft base (log ++ []) image → Represents image s = λ image h. only_member image s (ready.images [] (All-nil (IsAllowed (Some s ∷ []))) image h) in
     let covers : Covers base (log ++ []) (length log) s [] = covers_by_fronts base log [] s [] (sym (history_behind-none (contents base log) [])) (λ count image h. inl (record {
@@ -63,7 +63,7 @@ nothing_done tale device s told ready = record {
   left = record {
     ops = [];
     told = told ∙ ap (λ (l : List LogOp). Some (record tale { log = l })) (sym (append-nil tale.log));
-    leaves = nothing_since tale.base tale.log s ready;
+    exit = nothing_since tale.base tale.log s ready;
   };
   sealed = tt;
   rounds_are = refl;
@@ -76,10 +76,10 @@ safe_then tale mid new s front back between members first sealed holds second =
     record {
       ops = first.ops ++ second.ops;
       told = second.told ∙ ap (λ (l : List LogOp). Some (record tale { log = l })) joined;
-      leaves = record {
-        covers = subst (λ (l : List LogOp). Covers tale.base l (length tale.log) s (front ++ back)) joined (covers-append tale.base (tale.log ++ first.ops) second.ops (length tale.log) s front back (record { first = first.leaves.covers; sealed = sealed; holds = holds; second = second.leaves.covers }));
-        stepwise = subst (λ (l : List LogOp). IsStepwise tale.base l (length tale.log)) joined (stepwise-append tale.base (tale.log ++ first.ops) second.ops (length tale.log) first.leaves.covers.within (subst AreSealed first.leaves.covers.told sealed) first.leaves.stepwise second.leaves.stepwise);
-        ready = subst (λ (l : List LogOp). IsReady tale.base l members) joined second.leaves.ready;
+      exit = record {
+        covers = subst (λ (l : List LogOp). Covers tale.base l (length tale.log) s (front ++ back)) joined (covers-append tale.base (tale.log ++ first.ops) second.ops (length tale.log) s front back (record { first = first.exit.covers; sealed = sealed; holds = holds; second = second.exit.covers }));
+        stepwise = subst (λ (l : List LogOp). IsStepwise tale.base l (length tale.log)) joined (stepwise-append tale.base (tale.log ++ first.ops) second.ops (length tale.log) first.exit.covers.within (subst AreSealed first.exit.covers.told sealed) first.exit.stepwise second.exit.stepwise);
+        ready = subst (λ (l : List LogOp). IsReady tale.base l members) joined second.exit.ready;
       };
     }
 
@@ -91,7 +91,7 @@ shown Shown members device tale holds told ready =
 -- behind sealed rounds the device holds the state behind them
 behind_holds : (tale : Tale) (mid : Device) (s : Standing) (rounds : History) (behind : IsSealedBehind tale mid s rounds) → Represents (held (with_ops behind.left.ops tale)) (state_after s (rounds_in behind.history))
 behind_holds tale mid s rounds behind =
-    subst (λ (h : History). Represents (held (with_ops behind.left.ops tale)) (state_after s h)) (sym behind.rounds_are) (only_member (held (with_ops behind.left.ops tale)) (state_after s rounds) behind.left.leaves.ready.holds)
+    subst (λ (h : History). Represents (held (with_ops behind.left.ops tale)) (state_after s h)) (sym behind.rounds_are) (only_member (held (with_ops behind.left.ops tale)) (state_after s rounds) behind.left.exit.ready.holds)
 
 -- one more call behind sealed rounds
 pub behind_then : (tale : Tale) (mid new : Device) (s : Standing) (rounds : History) (back : List LoggedRound) (members : List (Option Standing)) (behind : IsSealedBehind tale mid s rounds) → IsLeftSafe (with_ops behind.left.ops tale) new (state_after s rounds) back members → IsLeftSafe tale new s (behind.history ++ back) members
@@ -102,7 +102,7 @@ behind_then tale mid new s rounds back members behind second =
 pub sealed_then : (tale : Tale) (mid new : Device) (s next : Standing) (rounds : History) (round : Round) (behind : IsSealedBehind tale mid s rounds) → next ≡ after_round (state_after s rounds) round → WhereReadyWith (Some (state_after s rounds) ∷ []) mid (λ t. IsLeftSafe t new (state_after s rounds) (sealed_round round ∷ []) (Some next ∷ [])) → IsSealedBehind tale new s (rounds ++ round ∷ [])
 sealed_then tale mid new s next rounds round behind is safe =
     let members = Some (state_after s rounds) ∷ [] in
-    let last = shown (λ t. IsLeftSafe t new (state_after s rounds) (sealed_round round ∷ []) (Some next ∷ [])) members mid (with_ops behind.left.ops tale) safe behind.left.told behind.left.leaves.ready in
+    let last = shown (λ t. IsLeftSafe t new (state_after s rounds) (sealed_round round ∷ []) (Some next ∷ [])) members mid (with_ops behind.left.ops tale) safe behind.left.told behind.left.exit.ready in
     let joined = behind_then tale mid new s rounds (sealed_round round ∷ []) (Some next ∷ []) behind last in
     record {
       history = behind.history ++ sealed_round round ∷ [];
@@ -132,12 +132,12 @@ region_of_two image s t (inr (inr never)) = absurd never
 
 told_region : (new : Device) (tale : Tale) (s : Standing) (history : List LoggedRound) (members : List (Option Standing)) (left : IsLeftSafe tale new s history members) → ((image : List Line) → StandsForOne image members → HasRegion image) → IfSome new.told (λ end. HasRegion (held end))
 told_region new tale s history members left region =
-    subst (λ (o : Option Tale). IfSome o (λ end. HasRegion (held end))) (sym left.told) (region (held (with_ops left.ops tale)) left.leaves.ready.holds)
+    subst (λ (o : Option Tale). IfSome o (λ end. HasRegion (held end))) (sym left.told) (region (held (with_ops left.ops tale)) left.exit.ready.holds)
 
 -- a round that failed, behind sealed ones
 pub stopped_then : (tale : Tale) (mid new : Device) (s : Standing) (asks front rest : List Ask) (ask : Ask) (rounds : History) (round : Round) (behind : IsSealedBehind tale mid s rounds) → asks ≡ front ++ ask ∷ rest → rounds ≡ run_of s front → rounds ++ round ∷ [] ≡ run_of s (front ++ ask ∷ []) → IsLegal s rounds → IsLegalRound (state_after s rounds) round → WhereReadyWith (Some (state_after s rounds) ∷ []) mid (λ t. IsLeftSafe t new (state_after s rounds) [] (Some (state_after s rounds) ∷ []) ⊎ IsInDoubt t new (state_after s rounds) round) → IsCaught tale new s asks
 stopped_then tale mid new s asks front rest ask rounds round behind whole run more legal one safe =
-    elim (shown (λ t. IsLeftSafe t new (state_after s rounds) [] (Some (state_after s rounds) ∷ []) ⊎ IsInDoubt t new (state_after s rounds) round) members mid (with_ops behind.left.ops tale) safe behind.left.told behind.left.leaves.ready) [
+    elim (shown (λ t. IsLeftSafe t new (state_after s rounds) [] (Some (state_after s rounds) ∷ []) ⊎ IsInDoubt t new (state_after s rounds) round) members mid (with_ops behind.left.ops tale) safe behind.left.told behind.left.exit.ready) [
       | inl last ↦
           let joined = behind_then tale mid new s rounds [] members behind last in
           let same : rounds_in (behind.history ++ []) ≡ rounds = ap rounds_in (append-nil behind.history) ∙ behind.rounds_are in

@@ -19,7 +19,7 @@ use Rattle.pb_pair.specs.Safe.{held, IsReadyWith, IsLeftSafe, HasAppeared}
 use Rattle.pb_broker.specs.declared.requests.Requests.{Requests}
 use Rattle.pb_broker.specs.History.{history_with}
 use Rattle.pb_broker.specs.Region.{RegionView, map_header}
-use Rattle.pb_broker.specs.Run.{IsRunOf, IsStopped, StopsRun, stop_for}
+use Rattle.pb_broker.specs.Run.{IsRunOf, IsRunStopped, StopsRun, stop_for}
 use Rattle.pb_broker.specs.Serving.{fresh_map, Holds, WhereReadyWith, IsFresh, IsRefusal, IsSealedBehind, AreAround, IsCaught, AreServed, FailsToServeAll}
 use Rattle.pb_broker.proofs.Behind.{shown, behind_then, sealed_behind}
 use Rattle.pb_broker.proofs.ServeLemmas.{told_step}
@@ -46,14 +46,14 @@ run_is size asks replies before first last places fresh served =
 
     then_served : (tale : Tale) → IsSealedBehind tale first.pair.device (fresh_map size) [] → IsSealedBehind tale last.pair.device (fresh_map size) (history_with asks replies)
     then_served tale behind =
-        sealed_behind tale first.pair.device last.pair.device (fresh_map size) [] (history_with asks replies) behind (shown (λ t. IsSealedBehind t last.pair.device (fresh_map size) (history_with asks replies)) (Some (fresh_map size) ∷ []) first.pair.device (with_ops behind.left.ops tale) of_fresh behind.left.told behind.left.leaves.ready)
+        sealed_behind tale first.pair.device last.pair.device (fresh_map size) [] (history_with asks replies) behind (shown (λ t. IsSealedBehind t last.pair.device (fresh_map size) (history_with asks replies)) (Some (fresh_map size) ∷ []) first.pair.device (with_ops behind.left.ops tale) of_fresh behind.left.told behind.left.exit.ready)
 
 -- a script during which a call of the device failed, behind formatting
-pub run_stops : (script : Requests) (before : Device) (first last : RegionView) → IsFresh script.size before first → FailsToServeAll script.asks.items first last → Rose before.faults last.pair.device.faults × HadNoRegion before last.pair.device × WhereReadyWith (None ∷ []) before (λ tale. IsStopped tale last.pair.device script.size script.asks.items)
+pub run_stops : (script : Requests) (before : Device) (first last : RegionView) → IsFresh script.size before first → FailsToServeAll script.asks.items first last → Rose before.faults last.pair.device.faults × HadNoRegion before last.pair.device × WhereReadyWith (None ∷ []) before (λ tale. IsRunStopped tale last.pair.device script.size script.asks.items)
 run_stops script before first last fresh fails = (
   subst (λ (n : ℕ). Rose n last.pair.device.faults) fresh.faults fails.rose,
   inr fresh.no_region,
-  told_step (λ tale. IsReadyWith (None ∷ []) tale → IsLeftSafe tale first.pair.device start [] (Some start ∷ [])) (λ tale. IsReadyWith (None ∷ []) tale → IsStopped tale last.pair.device script.size asks) before.told fresh.safe (λ tale told left ready. stopped tale (formatted_behind script.size before first tale (left ready))),
+  told_step (λ tale. IsReadyWith (None ∷ []) tale → IsLeftSafe tale first.pair.device start [] (Some start ∷ [])) (λ tale. IsReadyWith (None ∷ []) tale → IsRunStopped tale last.pair.device script.size asks) before.told fresh.safe (λ tale told left ready. stopped tale (formatted_behind script.size before first tale (left ready))),
 )
   where
     start : Standing
@@ -72,9 +72,9 @@ run_stops script before first last fresh fails = (
     never_nothing None region = tt
     never_nothing (Some end) region = λ nothing. absurd (nothing region)
 
-    stopped : (tale : Tale) → IsSealedBehind tale first.pair.device start [] → IsStopped tale last.pair.device script.size asks
+    stopped : (tale : Tale) → IsSealedBehind tale first.pair.device start [] → IsRunStopped tale last.pair.device script.size asks
     stopped tale behind =
-        let last_part = shown Shown (Some start ∷ []) first.pair.device (with_ops behind.left.ops tale) of_fresh behind.left.told behind.left.leaves.ready in
+        let last_part = shown Shown (Some start ∷ []) first.pair.device (with_ops behind.left.ops tale) of_fresh behind.left.told behind.left.exit.ready in
         let part = last_part.behind in
         record {
           behind = record {
@@ -96,13 +96,13 @@ refused_is script before after MemoryWhy same = same
 refused_is script before after (DeviceWhy fault) fails = (
   fails.rose,
   fails.kept,
-  told_step (λ tale. IsReadyWith (None ∷ []) tale → IsLeftSafe tale after (fresh_map script.size) [] (None ∷ []) ⊎ HasAppeared tale after (map_header script.size)) (λ tale. IsReadyWith (None ∷ []) tale → IsStopped tale after script.size script.asks.items) before.told fails.safe (λ tale told left ready. stopped tale (left ready)),
+  told_step (λ tale. IsReadyWith (None ∷ []) tale → IsLeftSafe tale after (fresh_map script.size) [] (None ∷ []) ⊎ HasAppeared tale after (map_header script.size)) (λ tale. IsReadyWith (None ∷ []) tale → IsRunStopped tale after script.size script.asks.items) before.told fails.safe (λ tale told left ready. stopped tale (left ready)),
 )
   where
     start : Standing
     start = fresh_map script.size
 
-    stop : (tale : Tale) (members : List (Option Standing)) → (members ≡ None ∷ []) ⊎ (members ≡ None ∷ Some start ∷ []) → IsLeftSafe tale after start [] members → IfSome after.told (λ end. ¬ HasRegion (held end) → IsReadyWith (None ∷ []) end) → IsStopped tale after script.size script.asks.items
+    stop : (tale : Tale) (members : List (Option Standing)) → (members ≡ None ∷ []) ⊎ (members ≡ None ∷ Some start ∷ []) → IsLeftSafe tale after start [] members → IfSome after.told (λ end. ¬ HasRegion (held end) → IsReadyWith (None ∷ []) end) → IsRunStopped tale after script.size script.asks.items
     stop tale members found left nothing = record {
       found = inl (refl, found);
       behind = record { history = []; members = members; left = left; legal = tt };
@@ -113,9 +113,9 @@ refused_is script before after (DeviceWhy fault) fails = (
     appeared None stands = tt
     appeared (Some end) stands = λ nothing. absurd (nothing (region_from (held end) start stands))
 
-    stopped : (tale : Tale) → IsLeftSafe tale after start [] (None ∷ []) ⊎ HasAppeared tale after (map_header script.size) → IsStopped tale after script.size script.asks.items
+    stopped : (tale : Tale) → IsLeftSafe tale after start [] (None ∷ []) ⊎ HasAppeared tale after (map_header script.size) → IsRunStopped tale after script.size script.asks.items
     stopped tale (inl left) =
-        stop tale (None ∷ []) (inl refl) left (subst (λ (o : Option Tale). IfSome o (λ end. ¬ HasRegion (held end) → IsReadyWith (None ∷ []) end)) (sym left.told) (λ nothing. left.leaves.ready))
+        stop tale (None ∷ []) (inl refl) left (subst (λ (o : Option Tale). IfSome o (λ end. ¬ HasRegion (held end) → IsReadyWith (None ∷ []) end)) (sym left.told) (λ nothing. left.exit.ready))
     stopped tale (inr there) = stop tale (None ∷ Some start ∷ []) (inr refl) there.left (appeared after.told there.holds)
 refused_is script before after TakenWhy refusal = refusal
 refused_is script before after NoRegion never = absurd never

@@ -30,7 +30,7 @@ use Rattle.pb_broker.specs.declared.stop.Stop.{Stop}
 use Rattle.pb_broker.specs.declared.stop.Stop.TheVariants.{Memory, Usage, ReadFault, Long, Line, DeviceFault, Taken}
 use Rattle.pb_broker.specs.History.{ServesEach, history_with, history_text, run_of}
 use Rattle.pb_broker.specs.Output.{usage_text, long_text, line_text, taken_text}
-use Rattle.pb_broker.specs.Run.{IsCommand, IsRunOf, IsStopped, Ran, Stops, Printed, Prints, served_text}
+use Rattle.pb_broker.specs.Run.{IsCommand, IsRunOf, IsRunStopped, Ran, RunStops, Printed, Prints, served_text}
 use Rattle.pb_broker.specs.Serving.{AreFound, fresh_map, Holds, WhereReadyWith, IsSealedBehind}
 use Rattle.pb_broker.specs.Top.{Call, Output, Wrote, WroteSome, WroteNothing, WhereReady, told_history, IsCoveredCall, IsSafeCall, IsDurable, IsInterrupted, IsRun, IsSameDevice, SaysUsage, SaysRefusal, SaysTaken, SaysRun, SaysSome, HasFault, IsAnswered}
 use Rattle.pb_broker.specs.Words.{IsFreshMap}
@@ -62,7 +62,7 @@ unchanged_left : (device : Device) (tale : Tale) (s : Standing) → IsWhole devi
 unchanged_left device tale s whole replay told ready = record {
   ops = [];
   told = told ∙ ap (λ (l : List LogOp). Some (record tale { log = l })) (sym (append-nil tale.log));
-  leaves = quiet_leaves tale.base tale.log [] s (omega (arith, told_length device tale whole replay told)) ready (All-nil IsQuiet);
+  exit = quiet_leaves tale.base tale.log [] s (omega (arith, told_length device tale whole replay told)) ready (All-nil IsQuiet);
 }
 
 module _ (size : ℕ) (tale : Tale) (new : Device) where
@@ -71,9 +71,9 @@ module _ (size : ℕ) (tale : Tale) (new : Device) where
   covered_call history members left legal = record {
     ops = left.ops;
     grown = refl;
-    covers = subst (Covers tale.base (tale.log ++ left.ops) (length tale.log) (fresh_map size)) left.leaves.covers.told left.leaves.covers;
-    stepwise = left.leaves.stepwise;
-    legal = subst (λ (h : List LoggedRound). IsLegal (fresh_map size) (rounds_in h)) left.leaves.covers.told legal;
+    covers = subst (Covers tale.base (tale.log ++ left.ops) (length tale.log) (fresh_map size)) left.exit.covers.told left.exit.covers;
+    stepwise = left.exit.stepwise;
+    legal = subst (λ (h : List LoggedRound). IsLegal (fresh_map size) (rounds_in h)) left.exit.covers.told legal;
   }
 
   -- whatever the device holds behind it
@@ -81,7 +81,7 @@ module _ (size : ℕ) (tale : Tale) (new : Device) where
   safe_call history members left legal nothing = record {
     covered = covered_call history members left legal;
     members = members;
-    ready = left.leaves.ready;
+    ready = left.exit.ready;
     nothing = nothing;
   }
 
@@ -95,7 +95,7 @@ same_safe : (call : Call) (size : ℕ) → IsWhole call.before → IsReplay call
 same_safe call size whole replay same =
     where_ready call (λ tale. Unit {0}) (IsSafeCall size) (where_told (λ tale. IsReadyWith (None ∷ []) tale → Unit {0}) call.before.told (λ tale is ready. tt)) (λ tale is ready known.
     let left = unchanged_left call.before tale (fresh_map size) whole replay is ready in
-    (with_ops left.ops tale, ap (λ (d : Device). d.told) same ∙ left.told, safe_call size tale call.before [] (None ∷ []) left tt (λ none. left.leaves.ready)))
+    (with_ops left.ops tale, ap (λ (d : Device). d.told) same ∙ left.told, safe_call size tale call.before [] (None ∷ []) left tt (λ none. left.exit.ready)))
 
 -- where a script was served
 module _ (call : Call) (size : ℕ) (asks : List Ask) (replies : List Reply) (run : IsRunOf size asks replies call.before call.after) where
@@ -117,21 +117,21 @@ module _ (call : Call) (size : ℕ) (asks : List Ask) (replies : List Reply) (ru
     end = with_ops behind.left.ops tale
 
     told : rounds ≡ told_history tale end
-    told = sym behind.rounds_are ∙ ap rounds_in behind.left.leaves.covers.told
+    told = sym behind.rounds_are ∙ ap rounds_in behind.left.exit.covers.told
 
     legal : IsLegal (fresh_map size) (rounds_in behind.history)
     legal = subst (IsLegal (fresh_map size)) (sym behind.rounds_are) run.legal
 
     run_safe_call : IsSafeCall size tale end
-    run_safe_call = safe_call size tale call.after behind.history (Some (state_after (fresh_map size) rounds) ∷ []) behind.left legal (λ none. absurd (none (has_region (held end) (state_after (fresh_map size) rounds) behind.left.leaves.ready.holds)))
+    run_safe_call = safe_call size tale call.after behind.history (Some (state_after (fresh_map size) rounds) ∷ []) behind.left legal (λ none. absurd (none (has_region (held end) (state_after (fresh_map size) rounds) behind.left.exit.ready.holds)))
 
     durable_call : IsDurable size asks (history_text rounds) tale end
     durable_call = record {
       covered = covered_call size tale call.after behind.history (Some (state_after (fresh_map size) rounds) ∷ []) behind.left legal;
-      sealed = subst AreSealed behind.left.leaves.covers.told behind.sealed;
+      sealed = subst AreSealed behind.left.exit.covers.told behind.sealed;
       each = subst (ServesEach asks) told (ServesEach-history asks replies run.places);
       text_is = ap history_text told;
-      ready = subst (λ (h : History). IsReadyWith (Some (state_after (fresh_map size) h) ∷ []) end) told behind.left.leaves.ready;
+      ready = subst (λ (h : History). IsReadyWith (Some (state_after (fresh_map size) h) ∷ []) end) told behind.left.exit.ready;
     }
 
   run_safe : WhereReady call (IsSafeCall size)
@@ -143,23 +143,23 @@ module _ (call : Call) (size : ℕ) (asks : List Ask) (replies : List Reply) (ru
       where_ready call (λ tale. IsSealedBehind tale call.after (fresh_map size) rounds) (IsDurable size asks (history_text rounds)) run.safe (λ tale is ready behind. (end tale behind, behind.left.told, durable_call tale behind))
 
 -- where a call of the device failed
-module _ (call : Call) (size : ℕ) (asks : List Ask) (stopped : WhereReadyWith (None ∷ []) call.before (λ tale. IsStopped tale call.after size asks)) where
+module _ (call : Call) (size : ℕ) (asks : List Ask) (stopped : WhereReadyWith (None ∷ []) call.before (λ tale. IsRunStopped tale call.after size asks)) where
   fault_safe : WhereReady call (IsSafeCall size)
   fault_safe =
-      where_ready call (λ tale. IsStopped tale call.after size asks) (IsSafeCall size) stopped (λ tale is ready stop.
+      where_ready call (λ tale. IsRunStopped tale call.after size asks) (IsSafeCall size) stopped (λ tale is ready stop.
       let left = stop.behind.left in
       (with_ops left.ops tale, left.told, safe_call size tale call.after stop.behind.history stop.behind.members left stop.behind.legal (subst (λ (told : Option Tale). IfSome told (λ end. ¬ HasRegion (held end) → IsReadyWith (None ∷ []) end)) left.told stop.nothing)))
 
   fault_interrupted : WhereReady call (IsInterrupted size asks)
   fault_interrupted =
-      where_ready call (λ tale. IsStopped tale call.after size asks) (IsInterrupted size asks) stopped (λ tale is ready stop.
+      where_ready call (λ tale. IsRunStopped tale call.after size asks) (IsInterrupted size asks) stopped (λ tale is ready stop.
       let left = stop.behind.left in (
         with_ops left.ops tale,
         left.told,
         record {
           members = stop.behind.members;
-          found = subst (λ (h : List LoggedRound). AreFound size asks (rounds_in h) stop.behind.members) left.leaves.covers.told stop.found;
-          ready = left.leaves.ready;
+          found = subst (λ (h : List LoggedRound). AreFound size asks (rounds_in h) stop.behind.members) left.exit.covers.told stop.found;
+          ready = left.exit.ready;
         },
       ))
 
@@ -169,7 +169,7 @@ module _ (call : Call) (size : ℕ) (asks : List Ask) (stopped : WhereReadyWith 
 abbrev IsSafe : Call → Type 0
 IsSafe call = (size : ℕ) → IsFreshMap call.read.words size → WhereReady call (IsSafeCall size)
 
-safe_by : (call : Call) (outcome : Result Requests Stop) → MatchResult outcome (Ran call) (Stops call) → IsWhole call.before → IsReplay call.before → IsSafe call
+safe_by : (call : Call) (outcome : Result Requests Stop) → MatchResult outcome (Ran call) (RunStops call) → IsWhole call.before → IsReplay call.before → IsSafe call
 safe_by call (Ok script) ran whole replay size fresh =
     subst (λ (n : ℕ). WhereReady call (IsSafeCall n)) (one_size ran.scripted.command fresh) (run_safe call script.size script.asks.items script.replies.items ran.run)
 safe_by call (Err Memory) stops whole replay size fresh = same_safe call size whole replay stops.1
@@ -378,19 +378,19 @@ says_run call script Text ran written = record {
   written = written;
 }
 
-says_usage : (call : Call) (Text : List ℕ → Type 0) → Stops call Usage → Text usage_text → SaysUsage call Text
+says_usage : (call : Call) (Text : List ℕ → Type 0) → RunStops call Usage → Text usage_text → SaysUsage call Text
 says_usage call Text stops text =
     record { cause = stops.0.0; text = text; source = stops.0.2; device = stops.1 }
 
-says_long : (call : Call) (Text : List ℕ → Type 0) → Stops call Long → Text long_text → SaysRefusal call Text
+says_long : (call : Call) (Text : List ℕ → Type 0) → RunStops call Long → Text long_text → SaysRefusal call Text
 says_long call Text stops text =
     record { size = stops.0.size; command = stops.0.command; cause = inl (stops.0.why, text); device = stops.1 }
 
-says_line : (call : Call) (line : ℕ) (Text : List ℕ → Type 0) → Stops call (Line line) → Text (line_text line) → SaysRefusal call Text
+says_line : (call : Call) (line : ℕ) (Text : List ℕ → Type 0) → RunStops call (Line line) → Text (line_text line) → SaysRefusal call Text
 says_line call line Text stops text =
     record { size = stops.0.size; command = stops.0.command; cause = inr (line, stops.0.why, text); device = stops.1 }
 
-says_taken : (call : Call) (Text : List ℕ → Type 0) → Stops call Taken → Text taken_text → SaysTaken call Text
+says_taken : (call : Call) (Text : List ℕ → Type 0) → RunStops call Taken → Text taken_text → SaysTaken call Text
 says_taken call Text stops text = record {
   size = stops.size;
   asks = stops.asks;
@@ -400,7 +400,7 @@ says_taken call Text stops text = record {
   device = stops.how.0;
 }
 
-has_fault : (call : Call) → Stops call DeviceFault → HasFault call
+has_fault : (call : Call) → RunStops call DeviceFault → HasFault call
 has_fault call stops = record {
   size = stops.size;
   asks = stops.asks;
@@ -412,7 +412,7 @@ has_fault call stops = record {
 same_faults : (call : Call) → IsSameDevice call → call.after.faults ≡ call.before.faults
 same_faults call same = ap (λ (device : Device). device.faults) same
 
-answer : (call : Call) (output : Output) (status : ℕ) (outcome : Result Requests Stop) → IsSafe call → MatchResult outcome (Ran call) (Stops call) → Prints output outcome status → IsAnswered call output status
+answer : (call : Call) (output : Output) (status : ℕ) (outcome : Result Requests Stop) → IsSafe call → MatchResult outcome (Ran call) (RunStops call) → Prints output outcome status → IsAnswered call output status
 answer call output status (Ok script) safe ran (inl all) =
     at_done call output status safe all.0 (says_run call script (Wrote output) ran all.1) all.2 ran.reads ran.run.faults
 answer call output status (Ok script) safe ran (inr fault) =
@@ -441,6 +441,6 @@ answer call output status (Err Taken) safe stops (inr fault) =
     at_fault call output status safe fault.0 (inr (inr (inl (says_taken call (WroteSome output) stops fault.1)))) fault.2 stops.reads (same_faults call stops.how.0)
 
 -- what a run came to, and how that was printed, answer the call
-pub answered_by : (call : Call) (output : Output) (status : ℕ) (outcome : Result Requests Stop) → MatchResult outcome (Ran call) (Stops call) → Prints output outcome status → IsWhole call.before → IsReplay call.before → IsAnswered call output status
+pub answered_by : (call : Call) (output : Output) (status : ℕ) (outcome : Result Requests Stop) → MatchResult outcome (Ran call) (RunStops call) → Prints output outcome status → IsWhole call.before → IsReplay call.before → IsAnswered call output status
 answered_by call output status outcome ran prints whole replay =
     answer call output status outcome (safe_by call outcome ran whole replay) ran prints

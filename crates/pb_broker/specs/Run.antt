@@ -21,7 +21,7 @@ use Rattle.pb_broker.specs.History.{history_with, history_text}
 use Rattle.pb_broker.specs.Output.{usage_text, long_text, line_text, taken_text}
 use Rattle.pb_broker.specs.Script.{AreRequests}
 use Rattle.pb_broker.specs.Serving.{fresh_map, Holds, WhereReadyWith, IsSealedBehind, IsStoppedBehind, AreFound}
-use Rattle.pb_broker.specs.Top.{Reading, Call, Output, Wrote, WroteSome, WroteNothing, IsUsage, IsLong, IsRefusedAt, IsSameDevice, IsScripted}
+use Rattle.pb_broker.specs.Top.{Reading, Call, Output, Wrote, WroteSome, WroteNothing, IsUsage, IsLong, IsRefusedLine, IsSameDevice, IsScripted}
 use Rattle.pb_broker.specs.Words.{IsFreshMap}
 
 -- Before the device is called
@@ -50,7 +50,7 @@ StopsBefore read Memory = IsCommand read × (read.faults ≡ read.faults_before)
 StopsBefore read Usage = IsUsage read × (read.faults ≡ read.faults_before) × Keeps read.source read.left
 StopsBefore read ReadFault = IsCommand read × Rose read.faults_before read.faults
 StopsBefore read Long = IsWrong read (IsLong read)
-StopsBefore read (Line line) = IsWrong read (IsRefusedAt read line)
+StopsBefore read (Line line) = IsWrong read (IsRefusedLine read line)
 StopsBefore read DeviceFault = ⊥
 StopsBefore read Taken = ⊥
 
@@ -72,7 +72,7 @@ pub record HasRun (script : Requests) (before after : Device) (served : Requests
   pub run : IsRunOf script.size script.asks.items served.replies.items before after
 
 -- a call of the device failed; where the device then holds no region, it is ready with none alone
-pub record IsStopped (tale : Tale) (after : Device) (size : ℕ) (asks : List Ask) : Type 0 where
+pub record IsRunStopped (tale : Tale) (after : Device) (size : ℕ) (asks : List Ask) : Type 0 where
   pub behind : IsStoppedBehind tale after (fresh_map size)
   pub found : AreFound size asks (rounds_in behind.history) behind.members
   pub nothing : IfSome after.told (λ end. ¬ HasRegion (held end) → IsReadyWith (None ∷ []) end)
@@ -80,7 +80,7 @@ pub record IsStopped (tale : Tale) (after : Device) (size : ℕ) (asks : List As
 -- why a run stops on the device, and what stands then
 abbrev pub StopsRun : Requests → Device → Device → Stop → Type 0
 StopsRun script before after Memory = after ≡ before
-StopsRun script before after DeviceFault = Rose before.faults after.faults × HadNoRegion before after × WhereReadyWith (None ∷ []) before (λ tale. IsStopped tale after script.size script.asks.items)
+StopsRun script before after DeviceFault = Rose before.faults after.faults × HadNoRegion before after × WhereReadyWith (None ∷ []) before (λ tale. IsRunStopped tale after script.size script.asks.items)
 StopsRun script before after Taken = (after ≡ before) × IfSome before.now HasRegion
 StopsRun script before after Usage = ⊥
 StopsRun script before after ReadFault = ⊥
@@ -112,14 +112,14 @@ pub record IsHeldUp (call : Call) (How : ℕ → List Ask → Type 0) : Type 0 w
   pub reads : call.read.faults ≡ call.read.faults_before
 
 -- why a run stops, and what stands then
-abbrev pub Stops : Call → Stop → Type 0
-Stops call Memory = IsCommand call.read × IsSameDevice call × (call.read.faults ≡ call.read.faults_before)
-Stops call Usage = StopsBefore call.read Usage × IsSameDevice call
-Stops call ReadFault = StopsBefore call.read ReadFault × IsSameDevice call
-Stops call Long = StopsBefore call.read Long × IsSameDevice call
-Stops call (Line line) = StopsBefore call.read (Line line) × IsSameDevice call
-Stops call DeviceFault = IsHeldUp call (λ size asks. Rose call.before.faults call.after.faults × HadNoRegion call.before call.after × WhereReadyWith (None ∷ []) call.before (λ tale. IsStopped tale call.after size asks))
-Stops call Taken = IsHeldUp call (λ size asks. IsSameDevice call × IfSome call.before.now HasRegion)
+abbrev pub RunStops : Call → Stop → Type 0
+RunStops call Memory = IsCommand call.read × IsSameDevice call × (call.read.faults ≡ call.read.faults_before)
+RunStops call Usage = StopsBefore call.read Usage × IsSameDevice call
+RunStops call ReadFault = StopsBefore call.read ReadFault × IsSameDevice call
+RunStops call Long = StopsBefore call.read Long × IsSameDevice call
+RunStops call (Line line) = StopsBefore call.read (Line line) × IsSameDevice call
+RunStops call DeviceFault = IsHeldUp call (λ size asks. Rose call.before.faults call.after.faults × HadNoRegion call.before call.after × WhereReadyWith (None ∷ []) call.before (λ tale. IsRunStopped tale call.after size asks))
+RunStops call Taken = IsHeldUp call (λ size asks. IsSameDevice call × IfSome call.before.now HasRegion)
 
 -- Printing
 

@@ -121,8 +121,8 @@ abbrev pub IsLong : Reading → Type 0
 IsLong read = IfSome read.source (λ bytes. SOURCE_LIMIT < length bytes)
 
 -- this line of the source is the first that is refused; nothing of the source is left
-abbrev pub IsRefusedAt : Reading → ℕ → Type 0
-IsRefusedAt read line = IfSome read.source (λ bytes. (length bytes ≤ SOURCE_LIMIT) × IsRefused line bytes) × IsAtEnd read.left
+abbrev pub IsRefusedLine : Reading → ℕ → Type 0
+IsRefusedLine read line = IfSome read.source (λ bytes. (length bytes ≤ SOURCE_LIMIT) × IsRefused line bytes) × IsAtEnd read.left
 
 -- the device is as it was
 abbrev pub IsSameDevice : Call → Type 0
@@ -139,7 +139,7 @@ pub record SaysUsage (call : Call) (Text : List ℕ → Type 0) : Type 0 where
 pub record SaysRefusal (call : Call) (Text : List ℕ → Type 0) : Type 0 where
   pub size : ℕ
   pub command : IsFreshMap call.read.words size
-  pub cause : (IsLong call.read × Text long_text) ⊎ ((line : ℕ) × IsRefusedAt call.read line × Text (line_text line))
+  pub cause : (IsLong call.read × Text long_text) ⊎ ((line : ℕ) × IsRefusedLine call.read line × Text (line_text line))
   pub device : IsSameDevice call
 
 -- the words are a command and the source is a script, but the device has a region; the text says so, and the device is as it was

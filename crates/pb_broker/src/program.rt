@@ -31,8 +31,8 @@ pub struct Done<P: Drop> {
 /// script. Any other words are no command.
 ///
 /// The words are judged first, then the source is read, then its lines are judged, then the device is formatted and the script is run,
-/// and then the outcomes are written. All memory is taken before the device is written to. Each request is durable before the next one is
-/// begun: wherever a crash falls, the region is found as it was before a request or behind it, or isn't there yet.
+/// and then the outcomes are written. All memory is taken before the device is written to. Each request is durable before the round of the
+/// next one is there: wherever a crash falls, the region is found as it was before a request or behind it, or isn't there yet.
 pub fn top<S: Source, K: Sink, P: Pmem + Send, G: Gate>(
     alloc: Global,
     words: &[String],

@@ -2,7 +2,7 @@
 ghost use Rattle.std.specs.Prelude.{◌≡◌, ◌≤◌, length, map, MatchResult};
 ghost use Rattle.std.specs.String.{string_bytes};
 ghost use Rattle.pb_object.specs.declared.request.TheConstants.{LAST_NUMBER};
-ghost use Rattle.pb_broker.specs.Run.{HasPrepared, StopsBefore, HasRun, StopsRun, Ran, Stops, stop_for};
+ghost use Rattle.pb_broker.specs.Run.{HasPrepared, StopsBefore, HasRun, StopsRun, Ran, RunStops, stop_for};
 ghost use Rattle.pb_broker.specs.Script.{AreRequests};
 ghost use Rattle.pb_broker.specs.Top.{Reading, Call};
 
@@ -43,7 +43,7 @@ pub fn run<S: Source, P: Pmem, G: Gate>(
       faults = S.fault_count source.new;
     } in
         let call : Call = record { read = read; before = P.seen device; after = P.seen result.device } in
-        MatchResult result.served (Ran call) (Stops call) }
+        MatchResult result.served (Ran call) (RunStops call) }
 {
     match prepare(alloc, words, source) {
         Ok(script) => run_script(alloc, script, device, gate),

@@ -29,7 +29,7 @@ use Rattle.pb_layout.specs.declared.header.Header.{Header}
 use Rattle.pb_layout.specs.declared.header.TheConstants.{MAGIC}
 use Rattle.pb_layout.proofs.LogHistories.{history_behind-append}
 use Rattle.pb_layout_laws.specs.Calls.{MayAdd, IsCutOff, preparing, appearing, formatting}
-use Rattle.pb_layout_laws.specs.Exits.{Leaves, LeavesAppearing, AreEmptyRecords, empty_for}
+use Rattle.pb_layout_laws.specs.Exits.{IsExit, IsExitAppearing, AreEmptyRecords, empty_for}
 use Rattle.pb_layout_laws.proofs.EmptyRegion.{no_rounds, formed_stands}
 use Rattle.pb_layout_laws.proofs.Entering.{IsOneOf, KeepsSettled, ready_from_bounds, image_from_bounds}
 use Rattle.pb_layout_laws.proofs.Fronts.{IsCoveredFront, covers_by_fronts}
@@ -419,7 +419,7 @@ rest_covers base log head first second rest is follows =
 -- The laws
 
 -- behind its magic formatting leaves no region or the empty object
-rest_leaves : (base : List Line) (log : List LogOp) (head : Header) (first second : List Line) (rest : List LogOp) → IsFormatting base log head first second → IsRest rest → Leaves base log (preparing head first second ++ magic_word ∷ rest) (empty_for head) [] (None ∷ Some (empty_for head) ∷ [])
+rest_leaves : (base : List Line) (log : List LogOp) (head : Header) (first second : List Line) (rest : List LogOp) → IsFormatting base log head first second → IsRest rest → IsExit base log (preparing head first second ++ magic_word ∷ rest) (empty_for head) [] (None ∷ Some (empty_for head) ∷ [])
 rest_leaves base log head first second rest is follows = record {
   covers = rest_covers base log head first second rest is follows;
   stepwise = covered_stepwise (rest_covers base log head first second rest is follows) (omega arith);
@@ -455,9 +455,9 @@ rest_leaves base log head first second rest is follows = record {
     keeps line word to (inr other) before image either differs = absurd other
 
 -- formatting that is cut off while it appears leaves no region, or the empty object where the magic was called
-pub cut_off_while_appearing : (base : List Line) (log tail : List LogOp) (head : Header) (first second : List Line) → IsHeader head → length base ≡ LINES → AreEmptyRecords head first second → IsReady base log (None ∷ []) → IsCutOff appearing tail → LeavesAppearing base log (preparing head first second ++ tail) tail head
+pub cut_off_while_appearing : (base : List Line) (log tail : List LogOp) (head : Header) (first second : List Line) → IsHeader head → length base ≡ LINES → AreEmptyRecords head first second → IsReady base log (None ∷ []) → IsCutOff appearing tail → IsExitAppearing base log (preparing head first second ++ tail) tail head
 cut_off_while_appearing base log tail head first second valid long empty ready cut = record {
-  none = λ e. subst (λ (t : List LogOp). Leaves base log (preparing head first second ++ t) (empty_for head) [] (None ∷ [])) (sym e) (subst (λ (l : List LogOp). Leaves base log l (empty_for head) [] (None ∷ [])) (sym (append-nil (preparing head first second))) (quiet_leaves base log (preparing head first second) (empty_for head) (some_lines base long) ready (preparing_quiet head first second)));
+  none = λ e. subst (λ (t : List LogOp). IsExit base log (preparing head first second ++ t) (empty_for head) [] (None ∷ [])) (sym e) (subst (λ (l : List LogOp). IsExit base log l (empty_for head) [] (None ∷ [])) (sym (append-nil (preparing head first second))) (quiet_leaves base log (preparing head first second) (empty_for head) (some_lines base long) ready (preparing_quiet head first second)));
   some = λ other. go other (cut_off-tail tail cut);
   holds = λ other. held other (cut_off-tail tail cut);
 }
@@ -467,13 +467,13 @@ cut_off_while_appearing base log tail head first second valid long empty ready c
     held other (inr (rest, follows, e)) =
         subst (λ (t : List LogOp). Represents (contents base (log ++ (preparing head first second ++ t))) (empty_for head)) (sym e) (rest_contents base log head first second rest (record { valid = valid; long = long; empty = empty; ready = ready }) follows)
 
-    go : ¬ (tail ≡ []) → IsTail tail → Leaves base log (preparing head first second ++ tail) (empty_for head) [] (None ∷ Some (empty_for head) ∷ [])
+    go : ¬ (tail ≡ []) → IsTail tail → IsExit base log (preparing head first second ++ tail) (empty_for head) [] (None ∷ Some (empty_for head) ∷ [])
     go other (inl e) = absurd (other e)
     go other (inr (rest, follows, e)) =
-        subst (λ (t : List LogOp). Leaves base log (preparing head first second ++ t) (empty_for head) [] (None ∷ Some (empty_for head) ∷ [])) (sym e) (rest_leaves base log head first second rest (record { valid = valid; long = long; empty = empty; ready = ready }) follows)
+        subst (λ (t : List LogOp). IsExit base log (preparing head first second ++ t) (empty_for head) [] (None ∷ Some (empty_for head) ∷ [])) (sym e) (rest_leaves base log head first second rest (record { valid = valid; long = long; empty = empty; ready = ready }) follows)
 
 -- whole formatting leaves the empty object alone
-pub makes_a_region : (base : List Line) (log : List LogOp) (head : Header) (first second : List Line) → IsHeader head → length base ≡ LINES → AreEmptyRecords head first second → IsReady base log (None ∷ []) → Leaves base log (formatting head first second) (empty_for head) [] (Some (empty_for head) ∷ [])
+pub makes_a_region : (base : List Line) (log : List LogOp) (head : Header) (first second : List Line) → IsHeader head → length base ≡ LINES → AreEmptyRecords head first second → IsReady base log (None ∷ []) → IsExit base log (formatting head first second) (empty_for head) [] (Some (empty_for head) ∷ [])
 makes_a_region base log head first second valid long empty ready = record {
   covers = rest_covers base log head first second (magic_back ∷ Sync ∷ []) is (inr (inr (inr refl)));
   stepwise = covered_stepwise (rest_covers base log head first second (magic_back ∷ Sync ∷ []) is (inr (inr (inr refl)))) (omega arith);

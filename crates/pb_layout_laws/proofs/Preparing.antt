@@ -22,7 +22,7 @@ use Rattle.pb_layout.specs.Ready.{StandsForOne, IsReady}
 use Rattle.pb_layout.specs.Region.{record_place}
 use Rattle.pb_layout.specs.declared.header.Header.{Header}
 use Rattle.pb_layout_laws.specs.Calls.{IsCutOff, writes_from, header_words, preparing}
-use Rattle.pb_layout_laws.specs.Exits.{Leaves, AreEmptyRecords, empty_for}
+use Rattle.pb_layout_laws.specs.Exits.{IsExit, AreEmptyRecords, empty_for}
 use Rattle.pb_layout_laws.proofs.Entering.{ready_bounds, IsOneOf, ready_from_bounds, image_from_bounds}
 use Rattle.pb_layout_laws.proofs.Fronts.{IsCoveredFront, covers_by_fronts}
 use Rattle.pb_layout_laws.proofs.Geometry.{record_behind}
@@ -76,7 +76,7 @@ quiet_front base log front s some ready quiet image left =
     )
 
 -- quiet operations leave no region
-pub quiet_leaves : (base : List Line) (log ops : List LogOp) (s : Standing) → 0 < length base → IsReady base log (None ∷ []) → All IsQuiet ops → Leaves base log ops s [] (None ∷ [])
+pub quiet_leaves : (base : List Line) (log ops : List LogOp) (s : Standing) → 0 < length base → IsReady base log (None ∷ []) → All IsQuiet ops → IsExit base log ops s [] (None ∷ [])
 quiet_leaves base log ops s some ready quiet = record {
   covers = covers;
   stepwise = covered_stepwise covers (omega arith);
@@ -152,6 +152,6 @@ preparing_quiet head first second =
     subst (All IsQuiet) (sym (preparing-is head first second)) (All-append IsQuiet (laying head first second) (giving head) (laying_quiet head first second) (giving_quiet head))
 
 -- formatting that is cut off before its magic is called leaves no region
-pub cut_off_while_preparing : (base : List Line) (log ops : List LogOp) (head : Header) (first second : List Line) → IsHeader head → length base ≡ LINES → AreEmptyRecords head first second → IsReady base log (None ∷ []) → IsCutOff (preparing head first second) ops → Leaves base log ops (empty_for head) [] (None ∷ [])
+pub cut_off_while_preparing : (base : List Line) (log ops : List LogOp) (head : Header) (first second : List Line) → IsHeader head → length base ≡ LINES → AreEmptyRecords head first second → IsReady base log (None ∷ []) → IsCutOff (preparing head first second) ops → IsExit base log ops (empty_for head) [] (None ∷ [])
 cut_off_while_preparing base log ops head first second valid long empty ready cut =
     quiet_leaves base log ops (empty_for head) (omega (arith, long)) ready (cut_off-quiet (preparing head first second) ops (preparing_quiet head first second) cut)

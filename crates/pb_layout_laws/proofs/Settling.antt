@@ -30,7 +30,7 @@ use Rattle.pb_layout.proofs.LogHistories.{history_behind-none, history_behind-fi
 use Rattle.pb_layout.proofs.OneStanding.{one_standing, few_sides}
 use Rattle.pb_layout.proofs.Readiness.{ready_is_kept, settling_word, allowed_writes_same}
 use Rattle.pb_layout_laws.specs.Calls.{IsCutOff, MayAdd, settling}
-use Rattle.pb_layout_laws.specs.Exits.{AlwaysStandFor, Leaves}
+use Rattle.pb_layout_laws.specs.Exits.{AlwaysStandFor, IsExit}
 use Rattle.pb_layout.proofs.OneAnswer.{region_from}
 use Rattle.pb_layout_laws.proofs.Compose.{stands_for_one}
 use Rattle.pb_layout_laws.proofs.Fronts.{IsAsAtStart, IsCoveredFront, covers_by_fronts}
@@ -474,7 +474,7 @@ settling_covers base log ops s members ready stands settle which =
     covers_by_fronts base log ops s [] (sym (history-settled s (contents base log) ops stands settle)) (fronts_covered base log ops s members ready stands settle which) (inl (still_stands base log ops s stands settle))
 
 -- settling that is cut off anywhere leaves the members as they were, and records no round
-pub settling_cut_off : (base : List Line) (log ops : List LogOp) (s : Standing) (members : List (Option Standing)) → IsReady base log members → Represents (contents base log) s → IsCutOff (settling (header_for s) (rounds_of s 0) (rounds_of s 1)) ops → Leaves base log ops s [] members
+pub settling_cut_off : (base : List Line) (log ops : List LogOp) (s : Standing) (members : List (Option Standing)) → IsReady base log members → Represents (contents base log) s → IsCutOff (settling (header_for s) (rounds_of s 0) (rounds_of s 1)) ops → IsExit base log ops s [] members
 settling_cut_off base log ops s members ready stands cut =
     let parts = cut_settling s ops cut in
     record {
@@ -494,7 +494,7 @@ settling_may_be_repeated base log ops s ready how moment low image left =
     ]
 
 -- all of settling leaves what the device holds, alone
-pub settling_leaves_one : (base : List Line) (log : List LogOp) (s : Standing) (members : List (Option Standing)) → IsReady base log members → Represents (contents base log) s → Leaves base log (settling (header_for s) (rounds_of s 0) (rounds_of s 1)) s [] (Some s ∷ [])
+pub settling_leaves_one : (base : List Line) (log : List LogOp) (s : Standing) (members : List (Option Standing)) → IsReady base log members → Represents (contents base log) s → IsExit base log (settling (header_for s) (rounds_of s 0) (rounds_of s 1)) s [] (Some s ∷ [])
 settling_leaves_one base log s members ready stands = record {
   covers = settling_covers base log (settling_of s) s members ready stands (settling_settles s) (inr refl);
   stepwise = covered_stepwise (settling_covers base log (settling_of s) s members ready stands (settling_settles s) (inr refl)) (omega arith);

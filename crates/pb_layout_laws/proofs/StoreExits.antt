@@ -31,7 +31,7 @@ use Rattle.pb_layout.proofs.OneAnswer.{record_fits}
 use Rattle.pb_layout.proofs.Records.{piece_is}
 use Rattle.pb_layout.proofs.Turn.{same_piece}
 use Rattle.pb_layout_laws.specs.Calls.{writes_from, staging, switching, MayAdd, IsCutOff}
-use Rattle.pb_layout_laws.specs.Exits.{IsStepwise, Leaves, LeavesInDoubt, sealed_round}
+use Rattle.pb_layout_laws.specs.Exits.{IsStepwise, IsExit, IsExitInDoubt, sealed_round}
 use Rattle.pb_layout_laws.proofs.Entering.{IsOneOf, ready_bounds, KeepsSettled, ready_from_bounds, image_from_bounds}
 use Rattle.pb_layout_laws.proofs.Fronts.{IsCoveredFront, covers_by_fronts}
 use Rattle.pb_layout_laws.proofs.Geometry.{parity-lt, spare_is_other}
@@ -78,7 +78,7 @@ quiet_front {base} {log} {s} {round} {lines} store ops quiet image left =
       stands = image_from_bounds (log ++ ops) (λ i. Represents i s) (quiet_old store ops quiet) (λ words stands. stands) image left;
     })
 
-pub store_while_staging : {base : List Line} {log : List LogOp} {s : Standing} {round : Round} {lines : List Line} → IsStore base log s round lines → (ops : List LogOp) → IsCutOff (staging (place_of s round) lines) ops → Leaves base log ops s [] (Some s ∷ [])
+pub store_while_staging : {base : List Line} {log : List LogOp} {s : Standing} {round : Round} {lines : List Line} → IsStore base log s round lines → (ops : List LogOp) → IsCutOff (staging (place_of s round) lines) ops → IsExit base log ops s [] (Some s ∷ [])
 store_while_staging {base} {log} {s} {round} {lines} store ops cut =
     let quiet = quiet_cut_off (place_of s round) (length lines) (staging (place_of s round) lines) ops (quiet_staging (place_of s round) lines) cut in
     let bounds = quiet_old store ops quiet in
@@ -489,10 +489,10 @@ store_ready {base} {log} {s} {round} {lines} store reach =
       keeps = keeps_turning store;
     })
 
-in_doubt : {base : List Line} {log : List LogOp} {s : Standing} {round : Round} {lines : List Line} (store : IsStore base log s round lines) (reach : Reach) → LeavesInDoubt base log (staging (place_of s round) lines ++ tail_to round.side (index_of s round) reach) (tail_to round.side (index_of s round) reach) s round
+in_doubt : {base : List Line} {log : List LogOp} {s : Standing} {round : Round} {lines : List Line} (store : IsStore base log s round lines) (reach : Reach) → IsExitInDoubt base log (staging (place_of s round) lines ++ tail_to round.side (index_of s round) reach) (tail_to round.side (index_of s round) reach) s round
 in_doubt {base} {log} {s} {round} {lines} store reach = record {
   history = rounds_to round reach;
-  leaves = record { covers = store_covers store reach; stepwise = store_stepwise store reach; ready = store_ready store reach };
+  exit = record { covers = store_covers store reach; stepwise = store_stepwise store reach; ready = store_ready store reach };
   rounds = told reach;
 }
   where
@@ -503,12 +503,12 @@ in_doubt {base} {log} {s} {round} {lines} store reach = record {
     told fenced = inr ((λ e. cc), refl)
     told synced = inr ((λ e. cc), refl)
 
-pub store_while_switching : {base : List Line} {log : List LogOp} {s : Standing} {round : Round} {lines : List Line} → IsStore base log s round lines → (tail : List LogOp) → IsCutOff (switching round.side (index_of s round)) tail → LeavesInDoubt base log (staging (place_of s round) lines ++ tail) tail s round
+pub store_while_switching : {base : List Line} {log : List LogOp} {s : Standing} {round : Round} {lines : List Line} → IsStore base log s round lines → (tail : List LogOp) → IsCutOff (switching round.side (index_of s round)) tail → IsExitInDoubt base log (staging (place_of s round) lines ++ tail) tail s round
 store_while_switching {base} {log} {s} {round} {lines} store tail cut =
     let is = cut_is_tail round.side (index_of s round) tail cut in
-    subst (λ (t : List LogOp). LeavesInDoubt base log (staging (place_of s round) lines ++ t) t s round) (sym is.1) (in_doubt store is.0)
+    subst (λ (t : List LogOp). IsExitInDoubt base log (staging (place_of s round) lines ++ t) t s round) (sym is.1) (in_doubt store is.0)
 
-pub store_whole : {base : List Line} {log : List LogOp} {s : Standing} {round : Round} {lines : List Line} → IsStore base log s round lines → Leaves base log (staging (place_of s round) lines ++ switching round.side (index_of s round)) s (sealed_round round ∷ []) (Some (after_round s round) ∷ [])
+pub store_whole : {base : List Line} {log : List LogOp} {s : Standing} {round : Round} {lines : List Line} → IsStore base log s round lines → IsExit base log (staging (place_of s round) lines ++ switching round.side (index_of s round)) s (sealed_round round ∷ []) (Some (after_round s round) ∷ [])
 store_whole {base} {log} {s} {round} {lines} store = record {
   covers = store_covers store synced;
   stepwise = store_stepwise store synced;

@@ -41,19 +41,19 @@ IsStepwise base log from = (moment : ℕ) → from ≤ moment → moment ≤ len
 
 -- a call that made these operations behind a log is covered from s on by this history, does one round after the other, and leaves the
 -- device ready with these members
-pub record Leaves (base : List Line) (log ops : List LogOp) (s : Standing) (history : List LoggedRound) (members : List (Option Standing)) : Type 0 where
+pub record IsExit (base : List Line) (log ops : List LogOp) (s : Standing) (history : List LoggedRound) (members : List (Option Standing)) : Type 0 where
   pub covers : Covers base (log ++ ops) (length log) s history
   pub stepwise : IsStepwise base (log ++ ops) (length log)
   pub ready : IsReady base (log ++ ops) members
 
--- a round that is sealed, and the one-round histories that a store may tell
+-- a round that is sealed
 abbrev pub sealed_round : Round → LoggedRound
 sealed_round round = record { round = round; backed = true; sealed = true }
 
 -- a store that was left in doubt: its round is in the history, sealed or not, or the log has no index word of it
-pub record LeavesInDoubt (base : List Line) (log ops tail : List LogOp) (s : Standing) (round : Round) : Type 0 where
+pub record IsExitInDoubt (base : List Line) (log ops tail : List LogOp) (s : Standing) (round : Round) : Type 0 where
   pub history : List LoggedRound
-  pub leaves : Leaves base log ops s history (Some s ∷ Some (after_round s round) ∷ [])
+  pub exit : IsExit base log ops s history (Some s ∷ Some (after_round s round) ∷ [])
   pub rounds : ((tail ≡ []) × (history ≡ [])) ⊎ (¬ (tail ≡ []) × (rounds_in history ≡ round ∷ []))
 
 -- the first records of a region in which nothing was asked yet: round 0, no requests, and the lines of the fresh object
@@ -76,7 +76,7 @@ abbrev pub empty_for : Header → Standing
 empty_for head = empty_standing head.kind head.clients head.size
 
 -- formatting that was left between its fence and its end: there is no region yet, or the new one, which a crash may still take back
-pub record LeavesAppearing (base : List Line) (log ops tail : List LogOp) (head : Header) : Type 0 where
-  pub none : tail ≡ [] → Leaves base log ops (empty_for head) [] (None ∷ [])
-  pub some : ¬ (tail ≡ []) → Leaves base log ops (empty_for head) [] (None ∷ Some (empty_for head) ∷ [])
+pub record IsExitAppearing (base : List Line) (log ops tail : List LogOp) (head : Header) : Type 0 where
+  pub none : tail ≡ [] → IsExit base log ops (empty_for head) [] (None ∷ [])
+  pub some : ¬ (tail ≡ []) → IsExit base log ops (empty_for head) [] (None ∷ Some (empty_for head) ∷ [])
   pub holds : ¬ (tail ≡ []) → Represents (contents base (log ++ ops)) (empty_for head)

@@ -14,7 +14,7 @@ ghost use Rattle.pb_layout.specs.LogHistory.{LoggedRound, rounds_in, AreSealed};
 ghost use Rattle.pb_layout.specs.Ready.{IsReady};
 ghost use Rattle.pb_layout.specs.Represents.{Represents, header_for};
 ghost use Rattle.pb_layout_laws.specs.Calls.{IsCutOff, staging, switching, storing, spare_place, preparing, appearing, formatting, settling};
-ghost use Rattle.pb_layout_laws.specs.Exits.{AllStandFor, AlwaysStandFor, Leaves, LeavesInDoubt, LeavesAppearing, sealed_round, AreEmptyRecords, empty_for};
+ghost use Rattle.pb_layout_laws.specs.Exits.{AllStandFor, AlwaysStandFor, IsExit, IsExitInDoubt, IsExitAppearing, sealed_round, AreEmptyRecords, empty_for};
 ghost use Rattle.pb_layout_laws.specs.InUse.{IsOutside};
 ghost use Rattle.pb_layout_laws.specs.NextRecord.{IsNextRecord, HasCells};
 
@@ -34,7 +34,7 @@ pub fn store_cut_off_while_staging()
         → IsNextRecord (contents base log) s round lines
         → HasCells base log s round
         → IsCutOff (staging (spare_place (header_for s) round.side (rounds_of s round.side)) lines) ops
-        → Leaves base log ops s [] (Some s ∷ []) }
+        → IsExit base log ops s [] (Some s ∷ []) }
 {}
 
 /// A store that is cut off from its index word on leaves the standing before its round or behind it.
@@ -45,7 +45,7 @@ pub fn store_cut_off_while_switching()
         → IsNextRecord (contents base log) s round lines
         → HasCells base log s round
         → IsCutOff (switching round.side (rounds_of s round.side + 1)) tail
-        → LeavesInDoubt base log (staging (spare_place (header_for s) round.side (rounds_of s round.side)) lines ++ tail) tail s round }
+        → IsExitInDoubt base log (staging (spare_place (header_for s) round.side (rounds_of s round.side)) lines ++ tail) tail s round }
 {}
 
 /// A whole store seals its round: its entries are those in which the record differs from the one before.
@@ -55,7 +55,7 @@ pub fn store_seals_its_round()
         → IsReady base log (Some s ∷ [])
         → IsNextRecord (contents base log) s round lines
         → HasCells base log s round
-        → Leaves base log (storing (header_for s) round.side (rounds_of s round.side) lines) s
+        → IsExit base log (storing (header_for s) round.side (rounds_of s round.side) lines) s
         (sealed_round round ∷ []) (Some (after_round s round) ∷ []) }
 {}
 
@@ -65,7 +65,7 @@ pub fn settling_cut_off()
         → IsReady base log members
         → Represents (contents base log) s
         → IsCutOff (settling (header_for s) (rounds_of s 0) (rounds_of s 1)) ops
-        → Leaves base log ops s [] members }
+        → IsExit base log ops s [] members }
 {}
 
 /// Settling leaves what the device holds, alone.
@@ -73,7 +73,7 @@ pub fn settling_leaves_one()
     ensures { (base : List Line) (log : List LogOp) (s : Standing) (members : List (Option Standing))
         → IsReady base log members
         → Represents (contents base log) s
-        → Leaves base log (settling (header_for s) (rounds_of s 0) (rounds_of s 1)) s [] (Some s ∷ []) }
+        → IsExit base log (settling (header_for s) (rounds_of s 0) (rounds_of s 1)) s [] (Some s ∷ []) }
 {}
 
 /// Settling that is cut off anywhere or whole, on a device that is ready with one standing alone, changes what no image stands for. So
@@ -93,7 +93,7 @@ pub fn formatting_cut_off_while_preparing()
         → AreEmptyRecords head first second
         → IsReady base log (None ∷ [])
         → IsCutOff (preparing head first second) ops
-        → Leaves base log ops (empty_for head) [] (None ∷ []) }
+        → IsExit base log ops (empty_for head) [] (None ∷ []) }
 {}
 
 /// Formatting that is cut off from its magic on leaves no region, or an empty one.
@@ -104,7 +104,7 @@ pub fn formatting_cut_off_while_appearing()
         → AreEmptyRecords head first second
         → IsReady base log (None ∷ [])
         → IsCutOff appearing tail
-        → LeavesAppearing base log (preparing head first second ++ tail) tail head }
+        → IsExitAppearing base log (preparing head first second ++ tail) tail head }
 {}
 
 /// Whole formatting leaves an empty region, alone.
@@ -114,7 +114,7 @@ pub fn formatting_makes_a_region()
         → length base ≡ LINES
         → AreEmptyRecords head first second
         → IsReady base log (None ∷ [])
-        → Leaves base log (formatting head first second) (empty_for head) [] (Some (empty_for head) ∷ []) }
+        → IsExit base log (formatting head first second) (empty_for head) [] (Some (empty_for head) ∷ []) }
 {}
 
 /// Coverings one behind the other are a covering; the rounds of the first are sealed, and stay as they are.

@@ -12,7 +12,7 @@ use Rattle.pb_layout.specs.declared.header.Header.{Header}
 use Rattle.pb_layout.specs.Header.{record_length}
 use Rattle.pb_layout.specs.Region.{record_place}
 use Rattle.pb_layout_laws.specs.Calls.{writes_from, header_words, preparing}
-use Rattle.pb_pair.specs.Format.{front_ops, gifts}
+use Rattle.pb_pair.specs.Format.{front_ops, write_backs}
 use Rattle.pb_pair.proofs.Writes.{writes-none}
 
 -- a kind that isn't a queue has one side
@@ -29,7 +29,7 @@ no_second Heap ops other = refl
 no_second Queue ops other = absurd (other refl)
 
 -- all but the magic: the first record, the front, and what is given to the device
-pub preparing_one : (head : Header) (first : List Line) → head.kind ≢ Queue → preparing head first [] ≡ writes_from (record_place head 0 0) first ++ (front_ops head ++ gifts head)
+pub preparing_one : (head : Header) (first : List Line) → head.kind ≢ Queue → preparing head first [] ≡ writes_from (record_place head 0 0) first ++ (front_ops head ++ write_backs head)
 preparing_one head first other =
     let writes = writes_from (record_place head 0 0) first in
     let second : List LogOp = Back (record_place head 1 0) (record_length head) ∷ [] in

@@ -16,7 +16,7 @@ use Rattle.pb_layout.specs.Represents.{Represents, header_for}
 use Rattle.pb_layout.specs.declared.header.Header.{Header}
 use Rattle.pb_layout.specs.Header.{IsHeader}
 use Rattle.pb_layout_laws.specs.Calls.{IsCutOff, staging, switching, spare_place, storing, preparing, formatting, settling}
-use Rattle.pb_layout_laws.specs.Exits.{Leaves, empty_for, sealed_round}
+use Rattle.pb_layout_laws.specs.Exits.{IsExit, empty_for, sealed_round}
 use Rattle.pb_layout_laws.proofs.Formatting.{cut_off_while_appearing, makes_a_region}
 use Rattle.pb_layout_laws.proofs.Preparing.{cut_off_while_preparing, quiet_leaves}
 use Rattle.pb_layout_laws.proofs.Settling.{settling_cut_off, settling_leaves_one}
@@ -46,9 +46,9 @@ pub told_behind : (old new : Option Tale) (tale : Tale) (ops : List LogOp) → o
 told_behind old new tale ops told grown = grown ∙ ap (option_map (with_ops ops)) told
 
 -- a call whose operations leave the device so
-left_safe : (old new : Device) {tale : Tale} {s : Standing} {history : List LoggedRound} {members : List (Option Standing)} (ops : List LogOp) → old.told ≡ Some tale → new.told ≡ option_map (with_ops ops) old.told → Leaves tale.base tale.log ops s history members → IsLeftSafe tale new s history members
+left_safe : (old new : Device) {tale : Tale} {s : Standing} {history : List LoggedRound} {members : List (Option Standing)} (ops : List LogOp) → old.told ≡ Some tale → new.told ≡ option_map (with_ops ops) old.told → IsExit tale.base tale.log ops s history members → IsLeftSafe tale new s history members
 left_safe old new {tale} ops told grown leaves =
-    record { ops = ops; told = told_behind old.told new.told tale ops told grown; leaves = leaves }
+    record { ops = ops; told = told_behind old.told new.told tale ops told grown; exit = leaves }
 
 -- Formatting
 
@@ -60,7 +60,7 @@ nothing_done : (head : Header) (old new : Device) (tale : Tale) → IsWhole old 
 nothing_done head old new tale whole replay told same ready = record {
   ops = [];
   told = same ∙ (told ∙ ap (λ (l : List LogOp). Some (record tale { log = l })) (sym (append-nil tale.log)));
-  leaves = quiet_leaves tale.base tale.log [] (empty_for head) (omega (arith, told_length old tale whole replay told)) ready (All-nil IsQuiet);
+  exit = quiet_leaves tale.base tale.log [] (empty_for head) (omega (arith, told_length old tale whole replay told)) ready (All-nil IsQuiet);
 }
 
 no_ops : (told : Option Tale) (ops : List LogOp) → ops ≡ [] → option_map (with_ops ops) told ≡ told
@@ -141,7 +141,7 @@ stops_storing_safely side lines old new whole replay few stops =
         inr (record {
           doubt = record {
             history = doubt.history;
-            left = left_safe old.device new (all ++ behind.tail) told grown doubt.leaves;
+            left = left_safe old.device new (all ++ behind.tail) told grown doubt.exit;
             rounds = elim doubt.rounds [ inl none ↦ inl none.1 | inr one ↦ inr one.1 ];
           };
           behind = record { tail = behind.tail; cut = behind.cut; whole = ap (λ (l : List LogOp). l ++ behind.tail) (sym (same_staging s round tale store)) };

@@ -40,8 +40,8 @@ pub record IsFormatted (header : Header) (first second : List Line) (old : Devic
 abbrev pub front_ops : Header → List LogOp
 front_ops head = Whole 1 zero_line ∷ Whole 2 zero_line ∷ header_words head
 
-abbrev pub gifts : Header → List LogOp
-gifts head = Back 0 3 ∷ Back (record_place head 0 0) (record_length head) ∷ Fence ∷ []
+abbrev pub write_backs : Header → List LogOp
+write_backs head = Back 0 3 ∷ Back (record_place head 0 0) (record_length head) ∷ Fence ∷ []
 
 -- where formatting may be cut off: at the first read, before the magic, or from the magic on
 abbrev pub IsFormatCut : Header → List Line → List Line → List LogOp → Type 0

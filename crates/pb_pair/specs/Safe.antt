@@ -10,7 +10,7 @@ use Rattle.pb_layout.specs.LogHistory.{LoggedRound, rounds_in}
 use Rattle.pb_layout.specs.Ready.{IsReady}
 use Rattle.pb_layout.specs.Represents.{Represents, header_for}
 use Rattle.pb_layout.specs.declared.header.Header.{Header}
-use Rattle.pb_layout_laws.specs.Exits.{AlwaysStandFor, Leaves, AreEmptyRecords, empty_for, sealed_round}
+use Rattle.pb_layout_laws.specs.Exits.{AlwaysStandFor, IsExit, AreEmptyRecords, empty_for, sealed_round}
 use Rattle.pb_layout_laws.specs.NextRecord.{IsNextRecord, HasCells}
 use Rattle.pb_layout_laws.specs.Calls.{IsCutOff, staging, switching, spare_place}
 use Rattle.pb_pair.specs.Calls.{with_ops, IsCutBehind}
@@ -20,7 +20,7 @@ use Rattle.pb_pair.specs.View.{PairView, round_of}
 pub record IsLeftSafe (tale : Tale) (new : Device) (s : Standing) (history : List LoggedRound) (members : List (Option Standing)) : Type 0 where
   pub ops : List LogOp
   pub told : new.told ≡ Some (with_ops ops tale)
-  pub leaves : Leaves tale.base tale.log ops s history members
+  pub exit : IsExit tale.base tale.log ops s history members
 
 -- what a device holds that tells its log
 abbrev pub held : Tale → List Line

@@ -6,7 +6,7 @@ ghost use Rattle.pb_object.specs.declared.kind.Kind.TheVariants.{Queue};
 ghost use Rattle.pb_layout.specs.Header.{IsHeader, record_length};
 ghost use Rattle.pb_layout_laws.specs.Calls.{IsCutOff, writes_from, header_words, preparing, appearing, formatting};
 ghost use Rattle.pb_pair.specs.Calls.{Does, Stops, IsCutInTwo};
-ghost use Rattle.pb_pair.specs.Format.{front_ops, gifts};
+ghost use Rattle.pb_pair.specs.Format.{front_ops, write_backs};
 
 use crate::calls::{make_all, write_lines};
 use pb_layout::{Header, MAGIC, count_line, first_record, record_len, record_line};
@@ -74,8 +74,8 @@ fn header_word(word: u32, to: u64) -> LogOp
 fn give<P: Pmem>(device: &mut P, head: &Header) -> Result<(), PmemFault>
     requires valid { IsHeader head.now }
     requires kind { head.now.kind ≢ Queue }
-    ensures ok { OnOk result (Does (gifts head.now) (P.seen device.old) (P.seen device.new)) }
-    ensures err { OnErr result (Stops (IsCutOff (gifts head.now)) (P.seen device.old) (P.seen device.new)) }
+    ensures ok { OnOk result (Does (write_backs head.now) (P.seen device.old) (P.seen device.new)) }
+    ensures err { OnErr result (Stops (IsCutOff (write_backs head.now)) (P.seen device.old) (P.seen device.new)) }
 {
     let first = record_line(head, 0, 0);
     let count = record_len(head);

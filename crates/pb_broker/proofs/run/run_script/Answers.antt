@@ -4,7 +4,7 @@ use Rattle.pb_object.specs.declared.request.Ask.{Ask}
 use Rattle.pb_object.specs.declared.request.Reply.{Reply}
 use Rattle.pb_pair.specs.Format.{HadNoRegion}
 use Rattle.pb_broker.specs.History.{history_with}
-use Rattle.pb_broker.specs.Run.{IsRunOf, IsStopped, StopsRun}
+use Rattle.pb_broker.specs.Run.{IsRunOf, IsRunStopped, StopsRun}
 use Rattle.pb_pmem.specs.Count.{Rose}
 use Rattle.pb_broker.specs.Serving.{WhereReadyWith, AreServed, FailsToServeAll}
 use Rattle.pb_pair.proofs.Opened.{written_whole}
@@ -39,4 +39,4 @@ returns-in-Err-served g c =
     let first = c.in-Ok.region in
     let last = c.serve_all-served.new.region in
     let fails = subst (λ (asks : List Ask). FailsToServeAll asks first last) c.deref.ensures.value c.in-Err-served.ensures.err in
-    subst (λ (device : Device). Rose before.faults device.faults × HadNoRegion before device × WhereReadyWith (None ∷ []) before (λ tale. IsStopped tale device script.size script.asks.items)) (sym c.close-device.ensures) (run_stops script before first last c.in-Ok.ensures.ok fails)
+    subst (λ (device : Device). Rose before.faults device.faults × HadNoRegion before device × WhereReadyWith (None ∷ []) before (λ tale. IsRunStopped tale device script.size script.asks.items)) (sym c.close-device.ensures) (run_stops script before first last c.in-Ok.ensures.ok fails)
