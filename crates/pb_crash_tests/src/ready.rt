@@ -47,7 +47,23 @@ fn found_behind(
     Ok(found_at_the_end(rt, alloc, &image)?)
 }
 
-// Each image stands for a member, behind each two of the operations that are allowed and then each of these.
+// Each image stands for a member, behind the first operations of the worked log and more.
+fn finds_members(
+    rt: &impl Abort,
+    alloc: Global,
+    moment: usize,
+    members: &[Found; 2],
+    more: [Option<LogOp>; 3],
+) -> Result<bool, Fail> {
+    for found in found_behind(rt, alloc, moment, more)?.iter() {
+        if !members.contains(found) {
+            return Ok(false);
+        }
+    }
+    Ok(true)
+}
+
+// The same, behind each two of the operations that are allowed and then each of these.
 fn is_ready(
     rt: &impl Abort,
     alloc: Global,
@@ -58,8 +74,7 @@ fn is_ready(
     for first in allowed(members) {
         for second in allowed(members) {
             for &third in last {
-                let found = found_behind(rt, alloc, moment, [first, second, third])?;
-                if !found.iter().all(|found| members.contains(found)) {
+                if !finds_members(rt, alloc, moment, members, [first, second, third])? {
                     return Ok(false);
                 }
             }

@@ -11,34 +11,20 @@ use std::test::Fail;
 
 const PICKS: [u64; 3] = [0, 1, 7];
 
-/// What an opening finds behind a crash of the worked log at a moment, with a cut and a pick: the round, or that there is no region.
+/// What an opening finds behind a crash of the worked log at a moment, with a cut and the pick 0, 1 or 7.
 ///
-/// There is no region at the moments 0 to 15. Behind the magic, at 16 and 17, there is one with cut 1 and a pick that leaves loose
-/// writes, and none with cut 0 or pick 0. Round 0 is found at 18 to 23. Behind the first index word, at 24 and 25, it is round 1 with
-/// cut 3 and a pick that leaves loose writes, and round 0 with cut 2 or pick 0. Round 1 is found at 26 to 31. Behind the second index
-/// word, at 32 and 33, it is round 2 with cut 5 and a pick that leaves loose writes, and round 1 with cut 4 or pick 0. Round 2 is
-/// found at 34.
+/// - No region: at the moments 0 to 15; at 16 and 17 with cut 0 or pick 0.
+/// - Round 0: at 16 and 17 with cut 1 and pick 1 or 7; at 18 to 23; at 24 and 25 with cut 2 or pick 0.
+/// - Round 1: at 24 and 25 with cut 3 and pick 1 or 7; at 26 to 31; at 32 and 33 with cut 4 or pick 0.
+/// - Round 2: at 32 and 33 with cut 5 and pick 1 or 7; at 34.
 fn stop(moment: u32, cut: u32, pick: u64) -> Result<u64, Why> {
-    let leaves_loose = pick != 0;
     match moment {
         0..=15 => Err(Why::NoRegion),
-        16 | 17 => if cut == 1 && leaves_loose {
-            Ok(0)
-        } else {
-            Err(Why::NoRegion)
-        },
-        18..=23 => Ok(0),
-        24 | 25 => if cut == 3 && leaves_loose {
-            Ok(1)
-        } else {
-            Ok(0)
-        },
-        26..=31 => Ok(1),
-        32 | 33 => if cut == 5 && leaves_loose {
-            Ok(2)
-        } else {
-            Ok(1)
-        },
+        16 | 17 if cut == 0 || pick == 0 => Err(Why::NoRegion),
+        16..=23 => Ok(0),
+        24 | 25 if cut == 2 || pick == 0 => Ok(0),
+        24..=31 => Ok(1),
+        32 | 33 if cut == 4 || pick == 0 => Ok(1),
         _ => Ok(2),
     }
 }

@@ -27,7 +27,10 @@ impl ToldRound {
 
     /// Whether the round is sealed at a moment.
     pub fn is_sealed(&self, moment: usize) -> bool {
-        self.moment.is_some_and(|sealed| sealed <= moment)
+        match self.moment {
+            Some(sealed) => sealed <= moment,
+            None => false,
+        }
     }
 }
 
