@@ -10,6 +10,35 @@ use std::test::Fail;
 
 const PICKS: [u64; 5] = [0, 1, 2, 7, 9];
 
+/// A device that a crash left.
+#[derive(Drop)]
+pub struct Left {
+    pub cut: u32,
+    pub pick: u64,
+    pub device: Image,
+}
+
+/// The devices that a crash at a moment leaves: at each cut, those of these picks. Each has room for settling.
+pub fn left_at(
+    rt: &impl Abort,
+    alloc: Global,
+    image: &Image,
+    moment: u32,
+    picks: &[u64],
+) -> Result<Vec<Left>, AllocError> {
+    assert!(rt; moment as usize <= image.log().len());
+    let (least, greatest) = image.cuts(moment);
+    assert!(rt; least <= greatest);
+    let mut all = Vec::new(alloc);
+    for cut in least..=greatest {
+        for &pick in picks {
+            let device = image.after_crash(alloc, moment, cut, pick, 8)?;
+            all.push(Left { cut, pick, device })?;
+        }
+    }
+    Ok(all)
+}
+
 /// What the images stand for that a crash at a moment leaves: at each cut, those of some picks.
 pub fn found_at(
     rt: &impl Abort,
@@ -17,14 +46,9 @@ pub fn found_at(
     image: &Image,
     moment: u32,
 ) -> Result<Vec<Found>, AllocError> {
-    assert!(rt; moment as usize <= image.log().len());
-    let (least, greatest) = image.cuts(moment);
     let mut found = Vec::new(alloc);
-    for cut in least..=greatest {
-        for pick in PICKS {
-            let left = image.after_crash(alloc, moment, cut, pick, 0)?;
-            found.push(read_image(alloc, &left)?)?;
-        }
+    for left in left_at(rt, alloc, image, moment, &PICKS)?.iter() {
+        found.push(read_image(alloc, &left.device)?)?;
     }
     Ok(found)
 }
@@ -70,14 +94,10 @@ fn is_still_nothing(rt: &impl Abort, log: &[LogOp], moment: usize, found: &Found
 }
 
 /// The first moment at which a crash leaves an image that the rounds don't cover.
-pub fn first_uncovered(
-    rt: &impl Abort,
-    alloc: Global,
-    image: &Image,
-) -> Result<Option<u32>, AllocError> {
+pub fn first_uncovered(rt: &impl Abort, alloc: Global, image: &Image) -> Result<Option<u32>, Fail> {
     let log = image.log();
     assert!(rt; log.len() <= 64);
-    let rounds = told_rounds(alloc, log)?;
+    let rounds = told_rounds(rt, alloc, log)?;
     for moment in 0..log.len() as u32 + 1 {
         let at = moment as usize;
         for found in found_at(rt, alloc, image, moment)?.iter() {
@@ -101,23 +121,16 @@ fn each_image_stands_for_a_front_of_the_rounds(rt: HostRuntime) -> Result<(), Fa
 fn each_front_of_the_rounds_is_left_by_some_crash(rt: HostRuntime) -> Result<(), Fail> {
     let alloc = rt.alloc();
     let image = device(&rt, alloc, &worked(alloc)?)?;
-    let rounds = told_rounds(alloc, image.log())?;
+    let rounds = told_rounds(&rt, alloc, image.log())?;
     for moment in 0..35 {
         let found = found_at(&rt, alloc, &image, moment)?;
         // Only the sync of the formatting, operation 18, takes the images without a region away.
-        assert_eq!(rt;
-            found.contains(&Found::Nothing),
-            moment < 18,
-            "moment {moment}"
-        );
+        let nothing = found.contains(&Found::Nothing);
+        assert_eq!(rt; nothing, moment < 18, "moment {moment}");
         for (kept, state) in STATES.iter().enumerate() {
             // The magic is operation 16.
             let left = moment >= 16 && is_front(&rounds, moment as usize, kept);
-            assert_eq!(rt;
-                found.contains(state),
-                left,
-                "moment {moment}, {kept} rounds"
-            );
+            assert_eq!(rt; found.contains(state), left, "{moment}, {kept} rounds");
         }
     }
     Ok(())
@@ -134,7 +147,7 @@ fn the_device_holds_the_state_behind_all_rounds(rt: HostRuntime) -> Result<(), F
         let want = if moment < 16 {
             Some(Found::Nothing)
         } else {
-            STATES.get(told_rounds(alloc, log)?.len()).copied()
+            STATES.get(told_rounds(&rt, alloc, log)?.len()).copied()
         };
         assert_eq!(rt; Some(read_image(alloc, &image)?), want, "moment {moment}");
     }

@@ -1,8 +1,8 @@
 //! Regions that are refused at an opening.
 use crate::pair::{open, tells};
-use crate::worked::{device, word, worked};
+use crate::worked::{MAGIC, device, front, word, worked};
 use pb_image::Image;
-use pb_layout::{Header, MAGIC, header_of};
+use pb_layout::{Header, header_of};
 use pb_object::Kind;
 use pb_pair::{Pair, Why};
 use pb_pmem::LogOp;
@@ -17,8 +17,7 @@ fn why(
     moment: usize,
     words: &[(u32, u32, u64)],
 ) -> Result<Option<Why>, Fail> {
-    let mut ops = worked(alloc)?;
-    ops.truncate(moment);
+    let mut ops = front(alloc, moment)?;
     for &(line, place, to) in words {
         ops.push(word(line, place, to))?;
     }
@@ -57,47 +56,47 @@ fn a_device_without_the_magic_has_no_region(rt: HostRuntime) -> Result<(), Fail>
     Ok(())
 }
 
+// Columns: the moment, the line, the place in it, the word, and the line that is refused.
+const REFUSED: [(usize, u32, u32, u64, u32); 27] = [
+    (34, 0, 1, 2, 0),
+    (34, 0, 2, 0, 0),
+    (34, 0, 2, 5, 0),
+    (34, 0, 3, 0, 0),
+    (34, 0, 3, 17, 0),
+    (34, 0, 4, 0, 0),
+    (34, 0, 4, 1025, 0),
+    (34, 0, 5, 4, 0),
+    (34, 0, 6, 4, 0),
+    (34, 0, 7, 1, 0),
+    (34, 1, 3, 1, 1),
+    (34, 1, 7, 1, 1),
+    (34, 2, 0, 1, 2),
+    (34, 2, 7, 1, 2),
+    // The round counts on, and the record in use is the other one, or carries another number.
+    (34, 1, 0, 3, 6),
+    (34, 1, 0, 4, 3),
+    (34, 3, 0, 1, 3),
+    (34, 3, 1, 1, 3),
+    (34, 4, 1, 4, 4),
+    (34, 4, 4, 1, 4),
+    // The client has made fewer requests than there were rounds.
+    (34, 4, 0, 1, 3),
+    (26, 6, 0, 2, 6),
+    (26, 6, 7, 1, 6),
+    (26, 7, 5, 1, 7),
+    // A request of number 0 has no other word.
+    (26, 7, 0, 0, 7),
+    (18, 3, 0, 1, 3),
+    (18, 4, 7, 1, 4),
+];
+
 #[test]
 fn the_first_refused_line_is_named(rt: HostRuntime) -> Result<(), Fail> {
     let alloc = rt.alloc();
-    // Columns: the moment, the line, the place in it, the word, and the line that is refused.
-    for (moment, line, place, to, refused) in [
-        (34, 0, 1, 2, 0),
-        (34, 0, 2, 0, 0),
-        (34, 0, 2, 5, 0),
-        (34, 0, 3, 0, 0),
-        (34, 0, 3, 17, 0),
-        (34, 0, 4, 0, 0),
-        (34, 0, 4, 1025, 0),
-        (34, 0, 5, 4, 0),
-        (34, 0, 6, 4, 0),
-        (34, 0, 7, 1, 0),
-        (34, 1, 3, 1, 1),
-        (34, 1, 7, 1, 1),
-        (34, 2, 0, 1, 2),
-        (34, 2, 7, 1, 2),
-        // The round counts on, and the record in use is the other one, or carries another number.
-        (34, 1, 0, 3, 6),
-        (34, 1, 0, 4, 3),
-        (34, 3, 0, 1, 3),
-        (34, 3, 1, 1, 3),
-        (34, 4, 1, 4, 4),
-        (34, 4, 4, 1, 4),
-        // The client has made fewer requests than there were rounds.
-        (34, 4, 0, 1, 3),
-        (26, 6, 0, 2, 6),
-        (26, 6, 7, 1, 6),
-        (26, 7, 5, 1, 7),
-        // A request of number 0 has no other word.
-        (26, 7, 0, 0, 7),
-        (18, 3, 0, 1, 3),
-        (18, 4, 7, 1, 4),
-    ] {
-        assert_eq!(rt;
-            why(&rt, alloc, moment, &[(line, place, to)])?,
-            Some(Why::Damaged { line: refused }),
-            "moment {moment}, line {line}, word {place} is {to}"
-        );
+    for (moment, line, place, to, refused) in REFUSED {
+        let want = Some(Why::Damaged { line: refused });
+        let found = why(&rt, alloc, moment, &[(line, place, to)])?;
+        assert_eq!(rt; found, want, "{moment}, line {line}, word {place} is {to}");
     }
     Ok(())
 }
@@ -116,11 +115,9 @@ fn the_first_check_that_fails_decides(rt: HostRuntime) -> Result<(), Fail> {
     ];
     for (count, refused) in [(1usize, 3), (2, 4), (3, 3), (4, 2), (5, 1), (6, 0)] {
         assert!(rt; count <= words.len());
-        assert_eq!(rt;
-            why(&rt, alloc, 34, words.split_at(count).0)?,
-            Some(Why::Damaged { line: refused }),
-            "{count} words"
-        );
+        let want = Some(Why::Damaged { line: refused });
+        let found = why(&rt, alloc, 34, words.split_at(count).0)?;
+        assert_eq!(rt; found, want, "{count} words");
     }
     Ok(())
 }
@@ -174,10 +171,8 @@ fn bytes_are_judged_as_the_lines_that_they_spell(rt: HostRuntime) -> Result<(), 
     let pair = open(alloc, sound)?;
     assert!(rt; tells(&rt, &pair, 0));
     let magic = of_bytes(alloc, b"PBCOMB01")?;
-    assert_eq!(rt;
-        judge(&rt, alloc, magic, &[])?,
-        Some(Why::Damaged { line: 0 })
-    );
+    let refused = Some(Why::Damaged { line: 0 });
+    assert_eq!(rt; judge(&rt, alloc, magic, &[])?, refused);
     let other = of_bytes(alloc, b"PBCOMB02")?;
     assert_eq!(rt; judge(&rt, alloc, other, &[])?, Some(Why::NoRegion));
     Ok(())

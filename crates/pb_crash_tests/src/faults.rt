@@ -1,9 +1,9 @@
 //! Device calls that fail in a formatting, a store, an opening and its settling: each of them, in each way.
 use crate::crash::{first_uncovered, found_at, found_at_the_end};
 use crate::found::Found;
-use crate::pair::{format, open, settled, store_next, stored, tells};
+use crate::pair::{format, open, settled, settling, store_next, stored, tells};
 use crate::rounds::told_rounds;
-use crate::worked::{STATES, device, worked};
+use crate::worked::{STATES, device, front, worked};
 use pb_image::{Call, Fail, How, Image};
 use pb_pair::{Pair, Refused, Why};
 use pb_pmem::{DeviceFault, Line, LogOp};
@@ -16,21 +16,34 @@ const WAYS: [How; 4] = [How::Left, How::Done, How::Torn(9), How::Fenced];
 // What is told of the first fault.
 const FAULT: DeviceFault = DeviceFault { from: 0, to: 1 };
 
-// Call `nth` of this device fails, and no other.
-fn fail_at(alloc: Global, device: &mut Image, nth: u64, how: How) -> Result<(), AllocError> {
-    let fail = Fail {
-        call: Call::Any,
-        nth,
-        how,
-    };
-    device.failing([fail].to_vec(alloc)?);
-    Ok(())
+// The kind of call that makes an operation.
+fn kind(op: &LogOp) -> Call {
+    match op {
+        LogOp::Whole { .. } => Call::Write,
+        LogOp::Word { .. } => Call::SetWord,
+        LogOp::Back { .. } => Call::WriteBack,
+        LogOp::Fence => Call::Fence,
+        LogOp::Sync => Call::Sync,
+    }
 }
 
-// A device of zeros, of which call `nth` fails.
-fn failing(alloc: Global, nth: u64, how: How) -> Result<Image, AllocError> {
+// The call fails that makes the operation behind the first `count` of these: its kind, and its number among those of its kind.
+fn fail_at(rt: &impl Abort, ops: &[LogOp], count: usize, how: How) -> Fail {
+    assert!(rt; count < ops.len());
+    let call = kind(&ops[count]);
+    let mut nth = 1u64;
+    for op in ops.split_at(count).0 {
+        if kind(op) == call {
+            nth = nth.saturating_add(1);
+        }
+    }
+    Fail { call, nth, how }
+}
+
+// A device of zeros, of which this call fails and no other.
+fn failing(alloc: Global, fail: Fail) -> Result<Image, AllocError> {
     let mut device = Image::zero(alloc, 64)?;
-    fail_at(alloc, &mut device, nth, how)?;
+    device.failing([fail].to_vec(alloc)?);
     Ok(device)
 }
 
@@ -47,17 +60,16 @@ fn left(op: LogOp, how: How) -> Option<LogOp> {
     }
 }
 
-// The first operations of the worked log, and what the call of the next one leaves.
-fn cut_off(alloc: Global, count: u32, how: How) -> Result<Vec<LogOp>, AllocError> {
-    let mut ops = worked(alloc)?;
-    let failed = ops.get(count as usize).copied();
-    ops.truncate(count as usize);
-    if let Some(op) = failed {
+// The first of these operations, and what the failing call of the next one leaves.
+fn cut_off(alloc: Global, ops: &[LogOp], count: usize, how: How) -> Result<Vec<LogOp>, AllocError> {
+    let mut done = ops.to_vec(alloc)?;
+    done.truncate(count);
+    if let Some(&op) = ops.get(count) {
         if let Some(op) = left(op, how) {
-            ops.push(op)?;
+            done.push(op)?;
         }
     }
-    Ok(ops)
+    Ok(done)
 }
 
 // From a moment on, each crash leaves the old state up to the word that switches, the new one behind the sync of that, and
@@ -119,7 +131,12 @@ fn refused(rt: &impl Abort, answer: Result<Pair<Image>, Refused<Image>>) -> Imag
 fn a_formatting_whose_read_fails_writes_nothing(rt: HostRuntime) -> Result<(), TestFail> {
     let alloc = rt.alloc();
     for how in WAYS {
-        let device = refused(&rt, format(&rt, alloc, failing(alloc, 1, how)?));
+        let fail = Fail {
+            call: Call::Read,
+            nth: 1,
+            how,
+        };
+        let device = refused(&rt, format(&rt, alloc, failing(alloc, fail)?));
         assert!(rt; device.log().is_empty());
         assert_eq!(rt; found_again(&rt, alloc, device)?, Err(Why::NoRegion));
     }
@@ -127,21 +144,17 @@ fn a_formatting_whose_read_fails_writes_nothing(rt: HostRuntime) -> Result<(), T
 }
 
 // What a formatting leaves, of whose operations the one behind the first `count` fails.
-fn format_fails(rt: &impl Abort, alloc: Global, count: u32, how: How) -> Result<(), TestFail> {
-    // The read is the first call.
-    let device = failing(alloc, u64::from(count) + 2, how)?;
+fn format_fails(rt: &impl Abort, alloc: Global, count: usize, how: How) -> Result<(), TestFail> {
+    let ops = worked(alloc)?;
+    let device = failing(alloc, fail_at(rt, &ops, count, how))?;
     let device = refused(rt, format(rt, alloc, device));
-    assert_eq!(rt; device.log(), cut_off(alloc, count, how)?.as_slice());
-    // A call that leaves no operation leaves what the one before it does. The magic is operation 16.
-    if device.log().len() > count as usize {
-        let states = [Found::Nothing, STATES[0]];
-        assert!(rt; leaves(rt, alloc, &device, 0, 16, states)?, "{count}");
-    }
-    let want = if device.log().len() < 16 {
-        Err(Why::NoRegion)
-    } else {
-        Ok(0)
-    };
+    let want = cut_off(alloc, &ops, count, how)?;
+    assert_eq!(rt; device.log(), want.as_slice());
+    // The magic is operation 16.
+    let states = [Found::Nothing, STATES[0]];
+    assert!(rt; leaves(rt, alloc, &device, 0, 16, states)?, "{count}");
+    let is_there = device.log().len() >= 16;
+    let want = if is_there { Ok(0) } else { Err(Why::NoRegion) };
     assert_eq!(rt; found_again(rt, alloc, device)?, want, "{count}");
     Ok(())
 }
@@ -169,48 +182,36 @@ fn store_fails(
     assert!(rt; stores < 2 && step < 8);
     let round = u64::from(stores);
     let from = 18 + 8 * u32::from(stores);
-    let count = from + step;
-    let device = failing(alloc, u64::from(count) + 2, how)?;
+    let count = (from + step) as usize;
+    let ops = worked(alloc)?;
+    let device = failing(alloc, fail_at(rt, &ops, count, how))?;
     let mut pair = stored(rt, alloc, device, round)?;
     assert_eq!(rt; store_next(rt, &mut pair), Err(FAULT));
     assert!(rt; !pair.sure());
     assert!(rt; tells(rt, &pair, round));
     assert_eq!(rt; pair.faults(), 1);
     let device = pair.close();
-    assert_eq!(rt; device.log(), cut_off(alloc, count, how)?.as_slice());
+    let want = cut_off(alloc, &ops, count, how)?;
+    assert_eq!(rt; device.log(), want.as_slice());
     // The index word is its operation 6.
-    if device.log().len() > count as usize {
-        let states = [STATES[stores as usize], STATES[stores as usize + 1]];
-        assert!(rt;
-            leaves(rt, alloc, &device, from, from + 6, states)?,
-            "{step}"
-        );
-    }
-    let is_switched = device.log().len() >= from as usize + 6;
+    let states = [STATES[stores as usize], STATES[stores as usize + 1]];
+    let switch = from + 6;
+    assert!(rt; leaves(rt, alloc, &device, from, switch, states)?, "{step}");
+    let is_switched = device.log().len() >= switch as usize;
     let want = if is_switched { round + 1 } else { round };
     assert_eq!(rt; found_again(rt, alloc, device)?, Ok(want), "{step}");
     Ok(())
 }
 
 #[test]
-fn the_put_that_fails_leaves_the_state_before_it_or_behind_it(
+fn a_store_that_fails_leaves_the_state_before_it_or_behind_it(
     rt: HostRuntime,
 ) -> Result<(), TestFail> {
-    for step in 0..8 {
-        for how in WAYS {
-            store_fails(&rt, rt.alloc(), 0, step, how)?;
-        }
-    }
-    Ok(())
-}
-
-#[test]
-fn the_get_that_fails_leaves_the_state_before_it_or_behind_it(
-    rt: HostRuntime,
-) -> Result<(), TestFail> {
-    for step in 0..8 {
-        for how in WAYS {
-            store_fails(&rt, rt.alloc(), 1, step, how)?;
+    for stores in 0..2 {
+        for step in 0..8 {
+            for how in WAYS {
+                store_fails(&rt, rt.alloc(), stores, step, how)?;
+            }
         }
     }
     Ok(())
@@ -220,51 +221,84 @@ fn the_get_that_fails_leaves_the_state_before_it_or_behind_it(
 fn settling_seals_the_round_of_a_failed_store(rt: HostRuntime) -> Result<(), TestFail> {
     let alloc = rt.alloc();
     // The last sync fails.
-    let mut pair = stored(&rt, alloc, failing(alloc, 35, How::Left)?, 1)?;
+    let last = fail_at(&rt, &worked(alloc)?, 33, How::Left);
+    let mut pair = stored(&rt, alloc, failing(alloc, last)?, 1)?;
     assert_eq!(rt; store_next(&rt, &mut pair), Err(FAULT));
     let (round, device) = settled(&rt, alloc, pair.close())?;
     assert_eq!(rt; round, 2);
     assert_eq!(rt; first_uncovered(&rt, alloc, &device)?, None);
-    let rounds = told_rounds(alloc, device.log())?;
+    let rounds = told_rounds(&rt, alloc, device.log())?;
     assert_eq!(rt; rounds.len(), 2);
-    for (round, moment) in rounds.iter().zip([26, 37]) {
-        assert_eq!(rt; round.moment, Some(moment));
-    }
+    assert_eq!(rt; rounds[0].moment, Some(26));
+    assert_eq!(rt; rounds[1].moment, Some(37));
     Ok(())
+}
+
+// Each read of an opening fails in turn, until an opening has no read of that number. How many reads failed.
+fn reads_that_fail(rt: &impl Abort, alloc: Global, how: How) -> Result<u64, TestFail> {
+    let ops = worked(alloc)?;
+    for nth in 1..64 {
+        let mut device = device(rt, alloc, &ops)?;
+        let call = Call::Read;
+        device.failing([Fail { call, nth, how }].to_vec(alloc)?);
+        match Pair::open(alloc, device) {
+            Ok(pair) => {
+                assert!(rt; tells(rt, &pair, 2));
+                return Ok(nth - 1);
+            }
+            Err(refused) => {
+                assert_eq!(rt; refused.why, Why::Device(FAULT));
+                assert_eq!(rt; refused.device.log(), ops.as_slice());
+            }
+        }
+    }
+    panic!(rt; "each of 63 openings failed")
 }
 
 #[test]
 fn a_read_that_fails_leaves_the_region_unopened(rt: HostRuntime) -> Result<(), TestFail> {
-    let alloc = rt.alloc();
-    let ops = worked(alloc)?;
-    // The header, the two round numbers, and the record's three lines.
-    for nth in 1..7 {
-        for how in WAYS {
-            let mut device = device(&rt, alloc, &ops)?;
-            fail_at(alloc, &mut device, nth, how)?;
-            let device = refused(&rt, Pair::open(alloc, device));
-            assert_eq!(rt; device.log(), ops.as_slice());
-        }
+    for how in WAYS {
+        assert!(rt; reads_that_fail(&rt, rt.alloc(), how)? > 0);
     }
+    Ok(())
+}
+
+// What the first `count` operations of the worked log leave, of whose settling the operation behind the first `step` fails: round 2
+// is found, and each crash leaves it or, until it is sealed, the old state.
+fn settle_fails(
+    rt: &impl Abort,
+    alloc: Global,
+    count: u32,
+    old: Found,
+    step: usize,
+    how: How,
+) -> Result<(), TestFail> {
+    assert!(rt; count <= 34 && step < 4);
+    let mut ops = front(alloc, count as usize)?;
+    let mut device = device(rt, alloc, &ops)?;
+    device.failing([fail_at(rt, &settling(2), step, how)].to_vec(alloc)?);
+    let mut pair = open(alloc, device)?;
+    assert_eq!(rt; pair.settle(), Err(FAULT));
+    assert!(rt; !pair.sure());
+    assert!(rt; tells(rt, &pair, 2));
+    let device = pair.close();
+    ops.extend_from_slice(&settling(2))?;
+    let want = cut_off(alloc, &ops, count as usize + step, how)?;
+    assert_eq!(rt; device.log(), want.as_slice());
+    // The index word is operation 32.
+    assert!(rt; leaves(rt, alloc, &device, count, 32, [old, STATES[2]])?);
+    assert_eq!(rt; found_again(rt, alloc, device)?, Ok(2));
     Ok(())
 }
 
 #[test]
 fn settling_that_fails_leaves_what_was_found(rt: HostRuntime) -> Result<(), TestFail> {
-    let alloc = rt.alloc();
-    let ops = worked(alloc)?;
-    // Behind the six reads of the opening.
-    for nth in 7..11 {
-        for how in WAYS {
-            let mut device = device(&rt, alloc, &ops)?;
-            fail_at(alloc, &mut device, nth, how)?;
-            let mut pair = open(alloc, device)?;
-            assert_eq!(rt; pair.settle(), Err(FAULT));
-            assert!(rt; !pair.sure());
-            assert!(rt; tells(&rt, &pair, 2));
-            let device = pair.close();
-            assert!(rt; leaves(&rt, alloc, &device, 34, 64, [STATES[2]; 2])?);
-            assert_eq!(rt; found_again(&rt, alloc, device)?, Ok(2));
+    // At rest, and before the sync that seals round 2.
+    for (count, old) in [(34, STATES[2]), (33, STATES[1])] {
+        for step in 0..4 {
+            for how in WAYS {
+                settle_fails(&rt, rt.alloc(), count, old, step, how)?;
+            }
         }
     }
     Ok(())

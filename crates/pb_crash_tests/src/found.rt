@@ -2,27 +2,25 @@
 use pb_image::Image;
 use pb_layout::{Header, LayoutFault, client_of, count_line, header_of, record_line, record_of};
 use pb_map::RegMap;
-use pb_object::{Kind, Object};
+use pb_object::{Kept, Kind, Object};
 use pb_pmem::Line;
 use std::alloc::{AllocError, Global};
 
-/// What the lines of an image stand for, as far as the worked region shows it.
+/// What the lines of an image stand for.
 #[derive(Clone, Copy, Debug, PartialEq, Eq)]
 pub enum Found {
     /// There is no region.
     Nothing,
     /// The format refuses the region, or it is another than the worked one.
     Damaged,
-    /// A region.
+    /// The worked region with this standing.
     Region {
         /// The round of side 0.
         round: u64,
-        /// The number of the client's last request.
-        number: u64,
-        /// The value of register 3.
-        value: u64,
-        /// The version of register 3.
-        version: u64,
+        /// The client's last request with its reply, where it made one.
+        kept: Option<Kept>,
+        /// Each register's value and version.
+        registers: [(u64, u64); 4],
     },
 }
 
@@ -37,14 +35,8 @@ pub const HEAD: Header = Header {
 pub fn read_image(alloc: Global, image: &Image) -> Result<Found, AllocError> {
     match header_of(&image.line(0)) {
         Err(LayoutFault::NoMagic) => Ok(Found::Nothing),
-        Err(_) => Ok(Found::Damaged),
-        Ok(head) => {
-            if head == HEAD {
-                read_region(alloc, image)
-            } else {
-                Ok(Found::Damaged)
-            }
-        }
+        Ok(HEAD) => read_region(alloc, image),
+        _ => Ok(Found::Damaged),
     }
 }
 
@@ -71,11 +63,14 @@ fn read_region(alloc: Global, image: &Image) -> Result<Found, AllocError> {
     if map.take_lines(&[record[2]]).is_err() {
         return Ok(Found::Damaged);
     }
-    let (value, version) = map.register(3);
     Ok(Found::Region {
         round,
-        number: kept.number,
-        value,
-        version,
+        kept: if kept.number == 0 { None } else { Some(kept) },
+        registers: [
+            map.register(0),
+            map.register(1),
+            map.register(2),
+            map.register(3),
+        ],
     })
 }

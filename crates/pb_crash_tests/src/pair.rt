@@ -3,12 +3,12 @@ ghost use Rattle.std.specs.Prelude.{◌≡◌, IfOk};
 ghost use Rattle.pb_pair.specs.declared.known.Known.TheVariants.{Opened};
 
 use crate::found::HEAD;
-use crate::worked::{back, device, word, worked};
+use crate::worked::{MAGIC, back, device, front, word, worked};
 use pb_image::Image;
-use pb_layout::{MAGIC, record_of};
+use pb_layout::record_of;
 use pb_pair::{Pair, Refused, Why};
 use pb_pmem::{DeviceFault, Line, LogOp};
-use std::alloc::{AllocError, Global};
+use std::alloc::Global;
 use std::process::Abort;
 use std::test::Fail;
 
@@ -102,21 +102,14 @@ pub fn settled(rt: &impl Abort, alloc: Global, device: Image) -> Result<(u64, Im
     Ok((round, pair.close()))
 }
 
-// The operations of settling behind so many rounds.
-fn settling(round: u64) -> [LogOp; 4] {
+/// The operations of settling behind so many rounds.
+pub fn settling(round: u64) -> [LogOp; 4] {
     [
         word(0, 0, MAGIC),
         word(1, 0, round),
         back(0, 3),
         LogOp::Sync,
     ]
-}
-
-// The first operations of the worked log.
-fn front(alloc: Global, count: usize) -> Result<Vec<LogOp>, AllocError> {
-    let mut ops = worked(alloc)?;
-    ops.truncate(count);
-    Ok(ops)
 }
 
 // Columns: the rounds, and the operations so far.
@@ -131,22 +124,7 @@ fn formatting_and_stores_make_the_worked_operations(rt: HostRuntime) -> Result<(
         assert!(rt; tells(&rt, &pair, round));
         assert_eq!(rt; pair.faults(), 0);
         let device = pair.close();
-        assert_eq!(rt; device.log().len(), count);
         assert_eq!(rt; device.log(), front(alloc, count)?.as_slice());
-    }
-    Ok(())
-}
-
-#[test]
-fn an_opening_tells_the_record_in_use_and_writes_nothing(rt: HostRuntime) -> Result<(), Fail> {
-    let alloc = rt.alloc();
-    for (round, count) in MOMENTS {
-        let ops = front(alloc, count)?;
-        let pair = open(alloc, device(&rt, alloc, &ops)?)?;
-        assert!(rt; !pair.sure());
-        assert!(rt; tells(&rt, &pair, round));
-        assert_eq!(rt; pair.faults(), 0);
-        assert_eq!(rt; pair.close().log(), ops.as_slice());
     }
     Ok(())
 }

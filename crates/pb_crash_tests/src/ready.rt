@@ -1,8 +1,7 @@
 //! Readiness: what a region may be found with, also behind what may be done to it before it is opened.
 use crate::crash::found_at_the_end;
 use crate::found::Found;
-use crate::worked::{STATES, back, device, word, worked};
-use pb_layout::MAGIC;
+use crate::worked::{MAGIC, STATES, back, device, front, word};
 use pb_pmem::LogOp;
 use std::alloc::Global;
 use std::process::Abort;
@@ -11,25 +10,24 @@ use std::test::Fail;
 // The round number that settling may write for a member.
 fn settling_word(member: &Found) -> Option<LogOp> {
     match *member {
-        Found::Nothing => None,
-        Found::Damaged => None,
         Found::Region { round, .. } => Some(word(1, 0, round)),
+        _ => None,
     }
 }
 
-// Number 0 is no operation, and 1 to 8 are among what may be done to a device with these members.
-fn allowed(number: u32, members: &[Found; 2]) -> Option<LogOp> {
-    match number {
-        1 => Some(back(1, 1)),
-        2 => Some(back(0, 3)),
-        3 => Some(LogOp::Fence),
-        4 => Some(LogOp::Sync),
-        5 => Some(word(0, 0, MAGIC)),
-        6 => settling_word(&members[0]),
-        7 => settling_word(&members[1]),
-        8 => Some(word(2, 0, 0)),
-        _ => None,
-    }
+// Nothing, and what may be done to a device with these members.
+fn allowed(members: &[Found; 2]) -> [Option<LogOp>; 9] {
+    [
+        None,
+        Some(back(1, 1)),
+        Some(back(0, 3)),
+        Some(LogOp::Fence),
+        Some(LogOp::Sync),
+        Some(word(0, 0, MAGIC)),
+        settling_word(&members[0]),
+        settling_word(&members[1]),
+        Some(word(2, 0, 0)),
+    ]
 }
 
 // What is found at the end behind the first operations of the worked log and more.
@@ -39,8 +37,7 @@ fn found_behind(
     moment: usize,
     more: [Option<LogOp>; 3],
 ) -> Result<Vec<Found>, Fail> {
-    let mut ops = worked(alloc)?;
-    ops.truncate(moment);
+    let mut ops = front(alloc, moment)?;
     for op in more {
         if let Some(op) = op {
             ops.push(op)?;
@@ -50,24 +47,36 @@ fn found_behind(
     Ok(found_at_the_end(rt, alloc, &image)?)
 }
 
-// Each image stands for a member, behind each of the first lists of allowed operations: the first 81 are those of at most two
-// operations, and the first 729 those of at most three.
+// Each image stands for a member, behind the first operations of the worked log and more.
+fn finds_members(
+    rt: &impl Abort,
+    alloc: Global,
+    moment: usize,
+    members: &[Found; 2],
+    more: [Option<LogOp>; 3],
+) -> Result<bool, Fail> {
+    for found in found_behind(rt, alloc, moment, more)?.iter() {
+        if !members.contains(found) {
+            return Ok(false);
+        }
+    }
+    Ok(true)
+}
+
+// The same, behind each two of the operations that are allowed and then each of these.
 fn is_ready(
     rt: &impl Abort,
     alloc: Global,
     moment: usize,
     members: &[Found; 2],
-    lists: u32,
+    last: &[Option<LogOp>],
 ) -> Result<bool, Fail> {
-    for list in 0..lists {
-        let more = [
-            allowed(list % 9, members),
-            allowed(list / 9 % 9, members),
-            allowed(list / 81 % 9, members),
-        ];
-        for found in found_behind(rt, alloc, moment, more)?.iter() {
-            if *found != members[0] && *found != members[1] {
-                return Ok(false);
+    for first in allowed(members) {
+        for second in allowed(members) {
+            for &third in last {
+                if !finds_members(rt, alloc, moment, members, [first, second, third])? {
+                    return Ok(false);
+                }
             }
         }
     }
@@ -78,7 +87,7 @@ fn is_ready(
 fn a_formatted_region_is_ready(rt: HostRuntime) -> Result<(), Fail> {
     let alloc = rt.alloc();
     let empty = [STATES[0], STATES[0]];
-    assert!(rt; is_ready(&rt, alloc, 18, &empty, 729)?);
+    assert!(rt; is_ready(&rt, alloc, 18, &empty, &allowed(&empty))?);
     Ok(())
 }
 
@@ -105,11 +114,8 @@ fn readiness_names_what_may_be_found(rt: HostRuntime) -> Result<(), Fail> {
         (33, get, get, false),
         (34, get, get, true),
     ] {
-        assert_eq!(rt;
-            is_ready(&rt, alloc, moment, &[first, second], 81)?,
-            ready,
-            "moment {moment}"
-        );
+        let found = is_ready(&rt, alloc, moment, &[first, second], &[None])?;
+        assert_eq!(rt; found, ready, "moment {moment}");
     }
     Ok(())
 }

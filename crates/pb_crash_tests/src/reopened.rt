@@ -1,39 +1,41 @@
 //! Regions that are opened behind a crash, and again behind a crash while they are settled.
-use crate::found::{Found, HEAD, read_image};
-use crate::pair::settled;
+use crate::crash::left_at;
+use crate::found::HEAD;
+use crate::pair::{settled, tells};
 use crate::worked::{device, worked};
 use pb_image::Image;
 use pb_pair::{Pair, Why};
-use std::alloc::{AllocError, Global};
+use std::alloc::Global;
 use std::process::Abort;
 use std::test::Fail;
 
 const PICKS: [u64; 3] = [0, 1, 7];
 
-// The devices that a crash at a moment leaves: at each cut, those of some picks.
-fn left_at(
-    rt: &impl Abort,
-    alloc: Global,
-    image: &Image,
-    moment: u32,
-) -> Result<Vec<Image>, AllocError> {
-    assert!(rt; moment as usize <= image.log().len());
-    let (least, greatest) = image.cuts(moment);
-    let mut all = Vec::new(alloc);
-    for cut in least..=greatest {
-        for pick in PICKS {
-            all.push(image.after_crash(alloc, moment, cut, pick, 8)?)?;
-        }
+/// What an opening finds behind a crash of the worked log at a moment, with a cut and the pick 0, 1 or 7.
+///
+/// - No region: at the moments 0 to 15; at 16 and 17 with cut 0 or pick 0.
+/// - Round 0: at 16 and 17 with cut 1 and pick 1 or 7; at 18 to 23; at 24 and 25 with cut 2 or pick 0.
+/// - Round 1: at 24 and 25 with cut 3 and pick 1 or 7; at 26 to 31; at 32 and 33 with cut 4 or pick 0.
+/// - Round 2: at 32 and 33 with cut 5 and pick 1 or 7; at 34.
+fn stop(moment: u32, cut: u32, pick: u64) -> Result<u64, Why> {
+    match moment {
+        0..=15 => Err(Why::NoRegion),
+        16 | 17 if cut == 0 || pick == 0 => Err(Why::NoRegion),
+        16..=23 => Ok(0),
+        24 | 25 if cut == 2 || pick == 0 => Ok(0),
+        24..=31 => Ok(1),
+        32 | 33 if cut == 4 || pick == 0 => Ok(1),
+        _ => Ok(2),
     }
-    Ok(all)
 }
 
-// What an opening finds: it writes nothing, and tells the round, or that there is no region.
+// What an opening finds: it writes nothing, and tells the record of the round, or that there is no region.
 fn opened(rt: &impl Abort, alloc: Global, device: Image) -> Result<u64, Why> {
     match Pair::open(alloc, device) {
         Ok(pair) => {
             assert_eq!(rt; pair.header(), HEAD);
             let round = pair.round(0);
+            assert!(rt; tells(rt, &pair, round));
             assert!(rt; pair.close().log().is_empty());
             Ok(round)
         }
@@ -44,43 +46,39 @@ fn opened(rt: &impl Abort, alloc: Global, device: Image) -> Result<u64, Why> {
     }
 }
 
-// What an opening is to find.
-fn wanted(rt: &impl Abort, found: &Found) -> Result<u64, Why> {
-    match *found {
-        Found::Nothing => Err(Why::NoRegion),
-        Found::Damaged => panic!(rt; "an image is damaged"),
-        Found::Region { round, .. } => Ok(round),
-    }
-}
-
 #[test]
-fn each_image_is_opened_as_what_it_stands_for(rt: HostRuntime) -> Result<(), Fail> {
+fn each_image_is_opened_as_the_table_of_stops_says(rt: HostRuntime) -> Result<(), Fail> {
     let alloc = rt.alloc();
     let image = device(&rt, alloc, &worked(alloc)?)?;
     for moment in 0..35 {
-        for left in left_at(&rt, alloc, &image, moment)? {
-            let want = wanted(&rt, &read_image(alloc, &left)?);
-            assert_eq!(rt; opened(&rt, alloc, left), want, "moment {moment}");
+        for left in left_at(&rt, alloc, &image, moment, &PICKS)? {
+            let want = stop(moment, left.cut, left.pick);
+            assert_eq!(rt; opened(&rt, alloc, left.device), want, "moment {moment}");
         }
     }
     Ok(())
 }
 
-// Each crash while this device is settled leaves what is opened with the same round.
-fn keeps_its_round(rt: &impl Abort, alloc: Global, device: Image) -> Result<bool, Fail> {
+// Where a region is to be found, each crash while this device is settled leaves what is opened with the same round.
+fn keeps(
+    rt: &impl Abort,
+    alloc: Global,
+    device: Image,
+    want: Result<u64, Why>,
+) -> Result<bool, Fail> {
     let (round, device) = match settled(rt, alloc, device) {
         Ok(settled) => settled,
-        Err(why) => return Ok(why == Why::NoRegion),
+        Err(why) => return Ok(Err(why) == want),
     };
     assert_eq!(rt; device.log().len(), 4);
     for moment in 0..5 {
-        for left in left_at(rt, alloc, &device, moment)? {
-            if opened(rt, alloc, left) != Ok(round) {
+        for left in left_at(rt, alloc, &device, moment, &PICKS)? {
+            if opened(rt, alloc, left.device) != want {
                 return Ok(false);
             }
         }
     }
-    Ok(true)
+    Ok(want == Ok(round))
 }
 
 #[test]
@@ -88,8 +86,9 @@ fn settling_that_a_crash_stops_changes_nothing(rt: HostRuntime) -> Result<(), Fa
     let alloc = rt.alloc();
     let image = device(&rt, alloc, &worked(alloc)?)?;
     for moment in 0..35 {
-        for left in left_at(&rt, alloc, &image, moment)? {
-            assert!(rt; keeps_its_round(&rt, alloc, left)?, "moment {moment}");
+        for left in left_at(&rt, alloc, &image, moment, &PICKS)? {
+            let want = stop(moment, left.cut, left.pick);
+            assert!(rt; keeps(&rt, alloc, left.device, want)?, "moment {moment}");
         }
     }
     Ok(())

@@ -1,31 +1,63 @@
 //! The worked log: a map of four registers for one client is formatted, and takes `put 3 77` and then `get 3`.
 use crate::found::Found;
 use pb_image::Image;
-use pb_layout::MAGIC;
+use pb_object::{Kept, Op, Reply};
 use pb_pmem::{LINES, Line, LogOp, Pmem, PmemFault};
 use std::alloc::{AllocError, Global};
 use std::process::Abort;
 use std::test::Fail;
 
+/// The format's magic, as the bytes `PBCOMB01` spell it.
+pub const MAGIC: u64 = 0x3130_424D_4F43_4250;
+
+/// `put 3 77`, and the reply `was 0 1`.
+pub const PUT: Kept = Kept {
+    number: 1,
+    op: Op {
+        code: 2,
+        a: 3,
+        b: 77,
+        c: 0,
+    },
+    reply: Reply {
+        code: 2,
+        value: 0,
+        extra: 1,
+    },
+};
+
+/// `get 3`, and the reply `is 77 1`.
+pub const GET: Kept = Kept {
+    number: 2,
+    op: Op {
+        code: 1,
+        a: 3,
+        b: 0,
+        c: 0,
+    },
+    reply: Reply {
+        code: 1,
+        value: 77,
+        extra: 1,
+    },
+};
+
 /// What the region stands for behind the formatting, behind the put, and behind the get.
 pub const STATES: [Found; 3] = [
     Found::Region {
         round: 0,
-        number: 0,
-        value: 0,
-        version: 0,
+        kept: None,
+        registers: [(0, 0), (0, 0), (0, 0), (0, 0)],
     },
     Found::Region {
         round: 1,
-        number: 1,
-        value: 77,
-        version: 1,
+        kept: Some(PUT),
+        registers: [(0, 0), (0, 0), (0, 0), (77, 1)],
     },
     Found::Region {
         round: 2,
-        number: 2,
-        value: 77,
-        version: 1,
+        kept: Some(GET),
+        registers: [(0, 0), (0, 0), (0, 0), (77, 1)],
     },
 ];
 
@@ -85,6 +117,13 @@ pub fn worked(alloc: Global) -> Result<Vec<LogOp>, AllocError> {
         LogOp::Sync,
     ];
     ops.to_vec(alloc)
+}
+
+/// The first of the 34 operations.
+pub fn front(alloc: Global, count: usize) -> Result<Vec<LogOp>, AllocError> {
+    let mut ops = worked(alloc)?;
+    ops.truncate(count);
+    Ok(ops)
 }
 
 // Makes the device call that adds an operation.
