@@ -81,7 +81,8 @@ pub fn settling_leaves_one()
 pub fn settling_may_be_repeated()
     ensures { (base : List Line) (log ops : List LogOp) (s : Standing)
         → IsReady base log (Some s ∷ [])
-        → IsCutOff (settling (header_for s) (rounds_of s 0) (rounds_of s 1)) ops ⊎ (ops ≡ settling (header_for s) (rounds_of s 0) (rounds_of s 1))
+        → IsCutOff (settling (header_for s) (rounds_of s 0) (rounds_of s 1)) ops
+        ⊎ (ops ≡ settling (header_for s) (rounds_of s 0) (rounds_of s 1))
         → AlwaysStandFor base log ops s }
 {}
 

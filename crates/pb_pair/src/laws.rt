@@ -39,6 +39,7 @@ pub fn settling_keeps_what_was_found()
         → old.device.told ≡ Some tale
         → IsReadyWith (Some s ∷ []) tale
         → IsPairOf old s
-        → Does (settling old.head (round_of old 0) (round_of old 1)) old.device new ⊎ Stops (IsCutOff (settling old.head (round_of old 0) (round_of old 1))) old.device new
+        → Does (settling old.head (round_of old 0) (round_of old 1)) old.device new
+        ⊎ Stops (IsCutOff (settling old.head (round_of old 0) (round_of old 1))) old.device new
         → StaysFound tale new s }
 {}
