@@ -91,7 +91,8 @@ impl Pmem for CountingDevice<'_> {
     }
 }
 
-/// A gate that counts its calls, and adds up for each of two requests how many operations there were when it was asked.
+/// A gate that counts its calls, and adds up how many operations there were when it was asked for request 1 of client 0, and for
+/// request 2.
 #[derive(Drop)]
 pub struct LookingGate<'a> {
     pub operations: &'a AtomicU64,
