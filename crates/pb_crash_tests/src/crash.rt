@@ -1,7 +1,7 @@
 //! Crashes at each moment of a log.
 use crate::found::{Found, read_image};
 use crate::rounds::{ToldRound, told_rounds};
-use crate::worked::{STATES, device, worked};
+use crate::worked::{STATES, device, front, worked};
 use pb_image::Image;
 use pb_pmem::LogOp;
 use std::alloc::{AllocError, Global};
@@ -139,15 +139,13 @@ fn each_front_of_the_rounds_is_left_by_some_crash(rt: HostRuntime) -> Result<(),
 #[test]
 fn the_device_holds_the_state_behind_all_rounds(rt: HostRuntime) -> Result<(), Fail> {
     let alloc = rt.alloc();
-    let log = worked(alloc)?;
-    for moment in 0..35usize {
-        assert!(rt; moment <= log.len());
-        let log = log.split_at(moment).0;
-        let image = device(&rt, alloc, log)?;
+    for moment in 0..35 {
+        let log = front(alloc, moment)?;
+        let image = device(&rt, alloc, &log)?;
         let want = if moment < 16 {
             Some(Found::Nothing)
         } else {
-            STATES.get(told_rounds(&rt, alloc, log)?.len()).copied()
+            STATES.get(told_rounds(&rt, alloc, &log)?.len()).copied()
         };
         assert_eq!(rt; Some(read_image(alloc, &image)?), want, "moment {moment}");
     }

@@ -1,11 +1,11 @@
 //! Regions that are refused at an opening.
 use crate::pair::{open, tells};
-use crate::worked::{MAGIC, device, front, word, worked};
+use crate::worked::{MAGIC, device, front, word};
 use pb_image::Image;
 use pb_layout::{Header, header_of};
 use pb_object::Kind;
 use pb_pair::{Pair, Why};
-use pb_pmem::LogOp;
+use pb_pmem::{Line, LogOp};
 use std::alloc::Global;
 use std::process::Abort;
 use std::test::Fail;
@@ -135,20 +135,16 @@ fn what_is_not_in_use_is_not_looked_at(rt: HostRuntime) -> Result<(), Fail> {
 #[test]
 fn the_header_of_a_queue_is_refused(rt: HostRuntime) -> Result<(), Fail> {
     let alloc = rt.alloc();
-    let words = [(0, 2, 4), (0, 6, 7)];
     let refused = Some(Why::Damaged { line: 0 });
-    assert_eq!(rt; why(&rt, alloc, 34, &words)?, refused);
+    assert_eq!(rt; why(&rt, alloc, 34, &[(0, 2, 4), (0, 6, 7)])?, refused);
     // The header is valid.
-    let mut ops = worked(alloc)?;
-    for (line, place, to) in words {
-        ops.push(word(line, place, to))?;
-    }
+    let words = [MAGIC, 1, 4, 1, 4, 3, 7, 0];
     let queue = Header {
         kind: Kind::Queue,
         clients: 1,
         size: 4,
     };
-    assert_eq!(rt; header_of(&device(&rt, alloc, &ops)?.line(0)), Ok(queue));
+    assert_eq!(rt; header_of(&Line { words }), Ok(queue));
     Ok(())
 }
 

@@ -60,16 +60,15 @@ fn left(op: LogOp, how: How) -> Option<LogOp> {
     }
 }
 
-// The first of these operations, and what the failing call of the next one leaves.
-fn cut_off(alloc: Global, ops: &[LogOp], count: usize, how: How) -> Result<Vec<LogOp>, AllocError> {
-    let mut done = ops.to_vec(alloc)?;
-    done.truncate(count);
-    if let Some(&op) = ops.get(count) {
-        if let Some(op) = left(op, how) {
-            done.push(op)?;
-        }
+// The log is the first of these operations, and what the failing call of the next one leaves.
+fn is_cut_off(log: &[LogOp], ops: &[LogOp], count: usize, how: How) -> bool {
+    if log.len() < count || ops.len() <= count {
+        return false;
     }
-    Ok(done)
+    let (done, more) = log.split_at(count);
+    done == ops.split_at(count).0
+        && more.first().copied() == left(ops[count], how)
+        && more.len() < 2
 }
 
 // From a moment on, each crash leaves the old state up to the word that switches, the new one behind the sync of that, and
@@ -131,12 +130,9 @@ fn refused(rt: &impl Abort, answer: Result<Pair<Image>, Refused<Image>>) -> Imag
 fn a_formatting_whose_read_fails_writes_nothing(rt: HostRuntime) -> Result<(), TestFail> {
     let alloc = rt.alloc();
     for how in WAYS {
-        let fail = Fail {
-            call: Call::Read,
-            nth: 1,
-            how,
-        };
-        let device = refused(&rt, format(&rt, alloc, failing(alloc, fail)?));
+        let (call, nth) = (Call::Read, 1);
+        let device = failing(alloc, Fail { call, nth, how })?;
+        let device = refused(&rt, format(&rt, alloc, device));
         assert!(rt; device.log().is_empty());
         assert_eq!(rt; found_again(&rt, alloc, device)?, Err(Why::NoRegion));
     }
@@ -145,11 +141,9 @@ fn a_formatting_whose_read_fails_writes_nothing(rt: HostRuntime) -> Result<(), T
 
 // What a formatting leaves, of whose operations the one behind the first `count` fails.
 fn format_fails(rt: &impl Abort, alloc: Global, count: usize, how: How) -> Result<(), TestFail> {
-    let ops = worked(alloc)?;
-    let device = failing(alloc, fail_at(rt, &ops, count, how))?;
-    let device = refused(rt, format(rt, alloc, device));
-    let want = cut_off(alloc, &ops, count, how)?;
-    assert_eq!(rt; device.log(), want.as_slice());
+    let fail = fail_at(rt, &worked(alloc)?, count, how);
+    let device = refused(rt, format(rt, alloc, failing(alloc, fail)?));
+    assert!(rt; is_cut_off(device.log(), &worked(alloc)?, count, how));
     // The magic is operation 16.
     let states = [Found::Nothing, STATES[0]];
     assert!(rt; leaves(rt, alloc, &device, 0, 16, states)?, "{count}");
@@ -171,35 +165,46 @@ fn a_formatting_that_fails_leaves_no_region_or_the_empty_one(
     Ok(())
 }
 
-// What the store behind so many others leaves, of whose operations the one behind the first `step` fails.
+// What the store behind so many others leaves, on a device that fails then.
+fn failed_store(rt: &impl Abort, alloc: Global, on: Image, stores: u64) -> Result<Image, TestFail> {
+    let mut pair = stored(rt, alloc, on, stores)?;
+    assert_eq!(rt; store_next(rt, &mut pair), Err(FAULT));
+    assert!(rt; !pair.sure());
+    assert!(rt; tells(rt, &pair, stores));
+    assert_eq!(rt; pair.faults(), 1);
+    Ok(pair.close())
+}
+
+// The store behind so many others, which begins at a moment, and of whose operations the one behind the first `count` fails.
 fn store_fails(
     rt: &impl Abort,
     alloc: Global,
-    stores: u8,
-    step: u32,
+    (stores, from): (u64, u32),
+    count: usize,
     how: How,
 ) -> Result<(), TestFail> {
-    assert!(rt; stores < 2 && step < 8);
-    let round = u64::from(stores);
-    let from = 18 + 8 * u32::from(stores);
-    let count = (from + step) as usize;
-    let ops = worked(alloc)?;
-    let device = failing(alloc, fail_at(rt, &ops, count, how))?;
-    let mut pair = stored(rt, alloc, device, round)?;
-    assert_eq!(rt; store_next(rt, &mut pair), Err(FAULT));
-    assert!(rt; !pair.sure());
-    assert!(rt; tells(rt, &pair, round));
-    assert_eq!(rt; pair.faults(), 1);
-    let device = pair.close();
-    let want = cut_off(alloc, &ops, count, how)?;
-    assert_eq!(rt; device.log(), want.as_slice());
+    let [empty, put, get] = STATES;
+    let states = if stores == 0 {
+        [empty, put]
+    } else {
+        [put, get]
+    };
+    let fail = fail_at(rt, &worked(alloc)?, count, how);
+    let device = failed_store(rt, alloc, failing(alloc, fail)?, stores)?;
+    assert!(rt; is_cut_off(device.log(), &worked(alloc)?, count, how));
     // The index word is its operation 6.
-    let states = [STATES[stores as usize], STATES[stores as usize + 1]];
-    let switch = from + 6;
-    assert!(rt; leaves(rt, alloc, &device, from, switch, states)?, "{step}");
+    let switch = from.saturating_add(6);
+    assert!(rt;
+        leaves(rt, alloc, &device, from, switch, states)?,
+        "{count}"
+    );
     let is_switched = device.log().len() >= switch as usize;
-    let want = if is_switched { round + 1 } else { round };
-    assert_eq!(rt; found_again(rt, alloc, device)?, Ok(want), "{step}");
+    let want = if is_switched {
+        stores.saturating_add(1)
+    } else {
+        stores
+    };
+    assert_eq!(rt; found_again(rt, alloc, device)?, Ok(want), "{count}");
     Ok(())
 }
 
@@ -207,11 +212,12 @@ fn store_fails(
 fn a_store_that_fails_leaves_the_state_before_it_or_behind_it(
     rt: HostRuntime,
 ) -> Result<(), TestFail> {
-    for stores in 0..2 {
-        for step in 0..8 {
-            for how in WAYS {
-                store_fails(&rt, rt.alloc(), stores, step, how)?;
-            }
+    for how in WAYS {
+        for count in 18..26 {
+            store_fails(&rt, rt.alloc(), (0, 18), count, how)?;
+        }
+        for count in 26..34 {
+            store_fails(&rt, rt.alloc(), (1, 26), count, how)?;
         }
     }
     Ok(())
@@ -263,8 +269,23 @@ fn a_read_that_fails_leaves_the_region_unopened(rt: HostRuntime) -> Result<(), T
     Ok(())
 }
 
-// What the first `count` operations of the worked log leave, of whose settling the operation behind the first `step` fails: round 2
-// is found, and each crash leaves it or, until it is sealed, the old state.
+// What settling leaves behind two rounds, where this call fails.
+fn failed_settling(
+    rt: &impl Abort,
+    alloc: Global,
+    mut device: Image,
+    fail: Fail,
+) -> Result<Image, TestFail> {
+    device.failing([fail].to_vec(alloc)?);
+    let mut pair = open(alloc, device)?;
+    assert_eq!(rt; pair.settle(), Err(FAULT));
+    assert!(rt; !pair.sure());
+    assert!(rt; tells(rt, &pair, 2));
+    Ok(pair.close())
+}
+
+// Settling behind the first `count` operations of the worked log, of whose own the one behind the first `step` fails: round 2 is
+// found, and each crash leaves it or, until it is sealed, the old state.
 fn settle_fails(
     rt: &impl Abort,
     alloc: Global,
@@ -275,16 +296,10 @@ fn settle_fails(
 ) -> Result<(), TestFail> {
     assert!(rt; count <= 34 && step < 4);
     let mut ops = front(alloc, count as usize)?;
-    let mut device = device(rt, alloc, &ops)?;
-    device.failing([fail_at(rt, &settling(2), step, how)].to_vec(alloc)?);
-    let mut pair = open(alloc, device)?;
-    assert_eq!(rt; pair.settle(), Err(FAULT));
-    assert!(rt; !pair.sure());
-    assert!(rt; tells(rt, &pair, 2));
-    let device = pair.close();
+    let fail = fail_at(rt, &settling(2), step, how);
+    let device = failed_settling(rt, alloc, device(rt, alloc, &ops)?, fail)?;
     ops.extend_from_slice(&settling(2))?;
-    let want = cut_off(alloc, &ops, count as usize + step, how)?;
-    assert_eq!(rt; device.log(), want.as_slice());
+    assert!(rt; is_cut_off(device.log(), &ops, count as usize + step, how));
     // The index word is operation 32.
     assert!(rt; leaves(rt, alloc, &device, count, 32, [old, STATES[2]])?);
     assert_eq!(rt; found_again(rt, alloc, device)?, Ok(2));

@@ -123,8 +123,7 @@ fn formatting_and_stores_make_the_worked_operations(rt: HostRuntime) -> Result<(
         assert!(rt; pair.sure());
         assert!(rt; tells(&rt, &pair, round));
         assert_eq!(rt; pair.faults(), 0);
-        let device = pair.close();
-        assert_eq!(rt; device.log(), front(alloc, count)?.as_slice());
+        assert_eq!(rt; pair.close().log(), front(alloc, count)?.as_slice());
     }
     Ok(())
 }

@@ -1,5 +1,5 @@
 //! The history that a log of the worked region tells, by the places of its operations. The device began with zeros.
-use crate::worked::{GET, PUT, device, worked};
+use crate::worked::{GET, PUT, device, front};
 use pb_image::Image;
 use pb_layout::client_of;
 use pb_object::{Kept, Kind};
@@ -93,11 +93,9 @@ pub fn told_rounds(rt: &impl Abort, alloc: Global, log: &[LogOp]) -> Result<Vec<
 #[test]
 fn the_worked_log_tells_the_put_and_the_get(rt: HostRuntime) -> Result<(), Fail> {
     let alloc = rt.alloc();
-    let log = worked(alloc)?;
     // The operation that is the index word, the moment at which it is sealed, and the entry.
     let all = [(24usize, 26usize, PUT), (32, 34, GET)];
-    for moment in 0..35usize {
-        assert!(rt; moment <= log.len());
+    for moment in 0..35 {
         let mut want = Vec::new(alloc);
         for (word, sealed, entry) in all {
             if word <= moment {
@@ -108,7 +106,7 @@ fn the_worked_log_tells_the_put_and_the_get(rt: HostRuntime) -> Result<(), Fail>
                 })?;
             }
         }
-        let rounds = told_rounds(&rt, alloc, log.split_at(moment).0)?;
+        let rounds = told_rounds(&rt, alloc, &front(alloc, moment)?)?;
         assert_eq!(rt; rounds.as_slice(), want.as_slice(), "moment {moment}");
     }
     Ok(())
