@@ -129,7 +129,7 @@ pub fn coverings_compose()
         → Covers base log from s (front ++ back) }
 {}
 
-/// Lines that stand for a standing pass all checks of opening. So a ready device is never found damaged.
+/// Of lines that stand for a standing the checks of opening refuse no line.
 pub fn what_stands_is_not_damaged()
     ensures { (image : List Line) (s : Standing) (line : ℕ)
         → Represents image s

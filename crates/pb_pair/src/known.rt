@@ -1,10 +1,10 @@
-/// What is known of a pair's device.
+/// What a pair did to its device last, and so what may be done next.
 #[derive(Clone, Copy, Debug, PartialEq, Eq)]
 pub enum Known {
-    /// It holds the records in use, and a crash leaves them.
+    /// It was formatted, settled or stored to, and no call failed since: it may be stored to.
     Sure,
-    /// It holds the records in use, but a crash may leave others until they are settled.
+    /// It was opened: it may be settled. A crash may leave another record in use until then.
     Opened,
-    /// A call failed: it isn't known which record it holds.
+    /// A call failed: the device may hold the record in use or the one that was being stored.
     Failed,
 }
