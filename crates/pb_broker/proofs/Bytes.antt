@@ -10,11 +10,11 @@ pub appends_more : (a b c : Option (List ℕ)) (text rest : List ℕ) (sent more
 appends_more a b c text rest sent more rest_is first second =
     subst (Appends a c) (sym (take-add sent more text ∙ ap (λ l. take sent text ++ take more l) (sym rest_is))) (Appends-trans a b c _ _ first second)
 
--- what one more read puts behind the bytes that are there
+-- what one more read puts after the bytes that are there
 pub consumes_more : (a b c : Option (List ℕ)) (old new rest : List ℕ) (len count : ℕ) → len ≤ length old → count ≤ length new → Consumes a b (take len old) → Consumes b c (take count new) → Consumes a c (take (len + count) (take len old ++ (new ++ rest)))
 consumes_more a b c old new rest len count within fits first second =
-    let front : length (take len old) ≡ len = length-take-le len old within in
+    let prefix : length (take len old) ≡ len = length-take-le len old within in
     let same : take (len + count) (take len old ++ (new ++ rest)) ≡ take len old ++ take count new =
-    ap (λ n. take (n + count) (take len old ++ (new ++ rest))) (sym front) ∙ take-append-add (take len old) (new ++ rest) count
+    ap (λ n. take (n + count) (take len old ++ (new ++ rest))) (sym prefix) ∙ take-append-add (take len old) (new ++ rest) count
     ∙ ap (λ l. take len old ++ l) (take-append-le count new rest fits) in
     subst (Consumes a c) (sym same) (Consumes-trans a b c _ _ first second)

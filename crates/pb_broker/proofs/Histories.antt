@@ -9,7 +9,7 @@ use Rattle.pb_broker.specs.History.{ServesEach, history_with, served, run_of}
 use Rattle.pb_broker.specs.Outcome.{alone, answered}
 use Rattle.pb_broker.specs.Script.{IsRequest, AreRequests}
 
--- the standing behind one more round
+-- the standing after one more round
 pub state_after-push : (s : Standing) (history : History) (round : Round) → state_after s (history ++ round ∷ []) ≡ after_round (state_after s history) round
 state_after-push s [] round = refl
 state_after-push s (first ∷ history) round = state_after-push (after_round s first) history round
@@ -23,7 +23,7 @@ pub history_with-nil : history_with [] [] ≡ []
 unfolding history_with
 history_with-nil = refl
 
--- requests one behind the other
+-- requests one after the other
 pub history_with-append : (asks more : List Ask) (replies rest : List Reply) → length asks ≡ length replies → history_with (asks ++ more) (replies ++ rest) ≡ history_with asks replies ++ history_with more rest
 unfolding history_with
 history_with-append [] more [] rest same = refl
@@ -76,7 +76,7 @@ ServesEach-history [] replies same = tt
 ServesEach-history (ask ∷ asks) [] same = absurd (omega arith)
 ServesEach-history (ask ∷ asks) (reply ∷ replies) same = ((reply, refl), ServesEach-history asks replies (omega arith))
 
--- requests one behind the other have their rounds one behind the other
+-- requests one after the other have their rounds one after the other
 pub ServesEach-append : (asks more : List Ask) (history rest : History) → ServesEach asks history → ServesEach more rest → ServesEach (asks ++ more) (history ++ rest)
 ServesEach-append [] more [] rest left right = right
 ServesEach-append [] more (round ∷ history) rest left right = absurd left

@@ -1,4 +1,4 @@
--- What a get answers behind a put.
+-- What a get answers after a put.
 use Rattle.std.proofs.Common.{◌≡◌, ◌≢◌, ℕ, ◌+◌, ◌<◌, Bool, true, false, if◌then◌else◌, nat_lt, ◌==◌, Option, Some, List, [], ◌∷◌, length, refl, sym, ap, subst, ◌∙◌, arith}
 use Rattle.std.proofs.lemmas.Bool.Decides.{nat_tests}
 use Rattle.std.proofs.lemmas.List.{get_or-set_same, get_or-set_other, length-set}
@@ -30,7 +30,7 @@ next_other registers op key other = set_other _ registers key op.a _ other
 next_count : (registers : List Register) (op : Op) → length (next_registers registers op) ≡ length registers
 next_count registers op = set_count _ registers op.a _
 
--- the map behind an operation, by its action
+-- the map after an operation, by its action
 abbrev next_by : Option Action → List Register → Op → List Register
 next_by action registers op =
     if (if nat_lt op.a (length registers) then register_reply action (register_at registers op.a) op else reply NoKey 0 0).code == answer_code Was
@@ -55,16 +55,16 @@ abbrev IsApart : ℕ → Op → Type 0
 IsApart key op = op.a ≢ key
 
 -- what others than its own register's operations leave of a get's reply
-get_behind : (others : List Op) (registers : List Register) (get : Op) → action_of get.code ≡ Some Get → get.a < length registers → All (IsApart get.a) others
+get_after : (others : List Op) (registers : List Register) (get : Op) → action_of get.code ≡ Some Get → get.a < length registers → All (IsApart get.a) others
     → reply_of (after_operations (Registers registers) others) get ≡ reply Is (register_at registers get.a).value (register_at registers get.a).version
-get_behind [] registers get is present apart = get_reply registers get is present
-get_behind (op ∷ others) registers get is present apart =
-    get_behind others (next_registers registers op) get is (subst (λ n. get.a < n) (sym (next_count registers op)) present) (All-tail (IsApart get.a) op others apart)
+get_after [] registers get is present apart = get_reply registers get is present
+get_after (op ∷ others) registers get is present apart =
+    get_after others (next_registers registers op) get is (subst (λ n. get.a < n) (sym (next_count registers op)) present) (All-tail (IsApart get.a) op others apart)
     ∙ ap is_of (next_other registers op get.a (λ e. All-head (IsApart get.a) op others apart (sym e)))
 
 pub get_answers : (registers : List Register) (put : Op) (others : List Op) (get : Op) → action_of put.code ≡ Some Put → action_of get.code ≡ Some Get → get.a ≡ put.a → put.a < length registers
     → (register_at registers put.a).version < last_version → All (IsApart put.a) others → GetAnswersThePut registers put others get
 get_answers registers put others get is_put is_get same present unworn apart =
-    get_behind others (next_registers registers put) get is_get (subst (λ n. get.a < n) (sym (next_count registers put)) (omega arith)) (subst (λ key. All (IsApart key) others) (sym same) apart)
+    get_after others (next_registers registers put) get is_get (subst (λ n. get.a < n) (sym (next_count registers put)) (omega arith)) (subst (λ key. All (IsApart key) others) (sym same) apart)
     ∙ ap (λ key. is_of (register_at (next_registers registers put) key)) same
     ∙ ap is_of (put_writes registers put is_put present unworn)

@@ -1,5 +1,6 @@
-mod Behind
+mod After
 mod Bytes
+mod FilledLines
 mod FormattedRegion
 mod Histories
 mod LastPut

@@ -14,7 +14,7 @@ use Rattle.pb_broker.specs.Script.{IsMapOperation, IsRequest, AreRequests, plain
 use Rattle.pb_broker.specs.Laws.{ScriptsAgree}
 use Rattle.pb_broker.proofs.Operations.{IsGetText, IsPutText, IsCasText}
 use Rattle.pb_broker.proofs.Plain.{one_number}
-use Rattle.pb_broker.proofs.PlainLines.{plain_line_is, behind_zero, line_shortens}
+use Rattle.pb_broker.proofs.PlainLines.{plain_line_is, after_zero, line_shortens}
 
 code_of_action : (code : ℕ) (action : Action) → action_of code ≡ Some action → code ≡ action_code action
 unfolding action_of
@@ -65,9 +65,9 @@ by_action (Some QueueTake) op rest e h = absurd (differs h.0) where
 same_op : (a b : Op) → a.code ≡ b.code → a.a ≡ b.a → a.b ≡ b.b → a.c ≡ b.c → a ≡ b
 same_op a b p q r s = λ i. record { code = p i; a = q i; b = r i; c = s i }
 
--- behind the same four bytes
-behind_four : (w x y z : ℕ) (front rest : List ℕ) → w ∷ x ∷ y ∷ z ∷ front ≡ w ∷ x ∷ y ∷ z ∷ rest → front ≡ rest
-behind_four w x y z front rest e = cc
+-- after the same four bytes
+after_four : (w x y z : ℕ) (prefix rest : List ℕ) → w ∷ x ∷ y ∷ z ∷ prefix ≡ w ∷ x ∷ y ∷ z ∷ rest → prefix ≡ rest
+after_four w x y z prefix rest e = cc
 
 first_byte : (x y : ℕ) (xs ys : List ℕ) → x ∷ xs ≡ y ∷ ys → x ≡ y
 first_byte x y xs ys e = cc
@@ -77,20 +77,20 @@ one_operation : (a b : Op) (text other x y : List ℕ) → text ≡ other → Is
     → IsGet a text x ⊎ (IsPut a text x ⊎ IsCas a text x) → IsGet b other y ⊎ (IsPut b other y ⊎ IsCas b other y) → (a ≡ b) × (x ≡ y)
 unfolding IsGet IsPut IsCas
 one_operation a b text other x y e va vb (inl p) (inl q) =
-    let same = one_number a.a b.a 10 x y va.a vb.a (omega arith) (behind_four _ _ _ _ _ _ (sym p.3 ∙ e ∙ q.3)) in
+    let same = one_number a.a b.a 10 x y va.a vb.a (omega arith) (after_four _ _ _ _ _ _ (sym p.3 ∙ e ∙ q.3)) in
     (same_op a b (p.0 ∙ sym q.0) same.0 (p.1 ∙ sym q.1) (p.2 ∙ sym q.2), same.1)
 one_operation a b text other x y e va vb (inl p) (inr (inl q)) = absurd (omega (arith, first_byte _ _ _ _ (sym p.3 ∙ e ∙ q.2)))
 one_operation a b text other x y e va vb (inl p) (inr (inr q)) = absurd (omega (arith, first_byte _ _ _ _ (sym p.3 ∙ e ∙ q.1)))
 one_operation a b text other x y e va vb (inr (inl p)) (inl q) = absurd (omega (arith, first_byte _ _ _ _ (sym p.2 ∙ e ∙ q.3)))
 one_operation a b text other x y e va vb (inr (inl p)) (inr (inl q)) =
-    let first = one_number a.a b.a 32 _ _ va.a vb.a (omega arith) (behind_four _ _ _ _ _ _ (sym p.2 ∙ e ∙ q.2)) in
+    let first = one_number a.a b.a 32 _ _ va.a vb.a (omega arith) (after_four _ _ _ _ _ _ (sym p.2 ∙ e ∙ q.2)) in
     let second = one_number a.b b.b 10 x y va.b vb.b (omega arith) first.1 in
     (same_op a b (p.0 ∙ sym q.0) first.0 second.0 (p.1 ∙ sym q.1), second.1)
 one_operation a b text other x y e va vb (inr (inl p)) (inr (inr q)) = absurd (omega (arith, first_byte _ _ _ _ (sym p.2 ∙ e ∙ q.1)))
 one_operation a b text other x y e va vb (inr (inr p)) (inl q) = absurd (omega (arith, first_byte _ _ _ _ (sym p.1 ∙ e ∙ q.3)))
 one_operation a b text other x y e va vb (inr (inr p)) (inr (inl q)) = absurd (omega (arith, first_byte _ _ _ _ (sym p.1 ∙ e ∙ q.2)))
 one_operation a b text other x y e va vb (inr (inr p)) (inr (inr q)) =
-    let first = one_number a.a b.a 32 _ _ va.a vb.a (omega arith) (behind_four _ _ _ _ _ _ (sym p.1 ∙ e ∙ q.1)) in
+    let first = one_number a.a b.a 32 _ _ va.a vb.a (omega arith) (after_four _ _ _ _ _ _ (sym p.1 ∙ e ∙ q.1)) in
     let second = one_number a.b b.b 32 _ _ va.b vb.b (omega arith) first.1 in
     let third = one_number a.c b.c 10 x y va.c vb.c (omega arith) second.1 in
     (same_op a b (p.0 ∙ sym q.0) first.0 second.0 third.0, third.1)
@@ -103,12 +103,12 @@ one_line : (number : ℕ) (a b : Ask) (x y : List ℕ) → number < 2 ^ 64 → I
 one_line number a b x y small ra rb e =
     let left = plain_line_is a number x ra in
     let right = plain_line_is b number y rb in
-    let fronts = behind_zero (plain_line a ++ x) _ _ left (e ∙ right) in
-    let texts = one_number number number 32 _ _ small small (omega arith) fronts in
+    let prefixes = after_zero (plain_line a ++ x) _ _ left (e ∙ right) in
+    let texts = one_number number number 32 _ _ small small (omega arith) prefixes in
     let ops = one_operation a.op b.op _ _ x y texts.1 ra.operation rb.operation (by_action (action_of a.op.code) a.op x refl ra.operation.operation) (by_action (action_of b.op.code) b.op y refl rb.operation.operation) in
     (same_ask a b (ra.client ∙ sym rb.client) (ra.number ∙ sym rb.number) ops.0, ops.1)
 
--- no line of this number stands at the front
+-- no line of this number stands first
 abbrev pub IsStuck : ℕ → List ℕ → Type 0
 IsStuck number rest = (ask : Ask) (tail : List ℕ) → IsRequest number ask → rest ≡ plain_line ask ++ tail → ⊥
 

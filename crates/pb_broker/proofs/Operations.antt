@@ -1,4 +1,4 @@
--- The texts of a map's operations, each with the line feed behind it.
+-- The texts of a map's operations, each with the line feed after it.
 use Rattle.std.proofs.Common.{◌≡◌, ℕ, ◌^◌, ◌<◌, List, ◌∷◌, ◌++◌, codes, refl, arith, append_assoc, append-nil}
 use Rattle.std.specs.Fmt.{decimal}
 use Rattle.pb_object.specs.declared.request.Op.{Op}

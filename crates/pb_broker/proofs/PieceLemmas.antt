@@ -17,7 +17,7 @@ use Rattle.pb_broker.proofs.Histories.{history_with-more, history_with-split}
 pub passes_none : (known : Option (List ℕ)) → Passes known known [] [] []
 passes_none known = record { gone = []; written = Appends-nil known; whole = refl }
 
--- one text behind another
+-- one text after another
 pub passes_more : (a b c : Option (List ℕ)) (before mid after first second : List ℕ) → Passes a b before mid first → Passes b c mid after second → Passes a c before after (first ++ second)
 passes_more a b c before mid after first second p q = record {
   gone = p.gone ++ q.gone;
@@ -63,7 +63,7 @@ pub history_text-more : (asks : List Ask) (replies : List Reply) (place : ℕ) (
 history_text-more asks replies place a r below same =
     ap history_text (history_with-more asks replies place a r below same) ∙ history_text-append _ _ ∙ ap (λ l. history_text (history_with (take place asks) (take place replies)) ++ l) (history_text-alone (get_or asks place a) (get_or replies place r))
 
--- the text so far is the front of the whole
+-- the text so far is a prefix of the whole
 pub history_text-split : (asks : List Ask) (replies : List Reply) (place : ℕ) → length replies ≡ length asks
     → history_text (history_with asks replies) ≡ history_text (history_with (take place asks) (take place replies)) ++ history_text (history_with (drop place asks) (drop place replies))
 history_text-split asks replies place same = ap history_text (history_with-split asks replies place same) ∙ history_text-append _ _

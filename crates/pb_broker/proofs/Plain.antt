@@ -1,4 +1,4 @@
--- Numbers in the plain form, each with the byte behind it.
+-- Numbers in the plain form, each with the byte after it.
 use Rattle.std.proofs.Common.{◌≡◌, ◌≢◌, ℕ, ◌+◌, ◌^◌, ◌<◌, Bool, true, false, cond, eqb, eqb-true, List, zero, suc, Option, MatchOption, ◌∷◌, ◌++◌, Some, None, length, get_or, take, drop, refl, sym, ap, ◌∙◌, subst, rules, arith, length-append}
 use Rattle.std.proofs.lemmas.Bool.Decides.{nat_tests}
 use Rattle.std.proofs.lemmas.Fmt.{decimal_is_IsNumeral, decimal-digits_value, decimal_injective, first_decimal, decimal_digit}
@@ -21,25 +21,25 @@ no_digit_ends n end k small below within =
     let d = digit_at (decimal n) k ((decimal_is_IsNumeral n small).0.1) within in
     grind (arith, nat_tests, d.0)
 
--- a number ends where the byte behind it stands
+-- a number ends where the byte after it stands
 pub place_of_end : (n end : ℕ) (rest : List ℕ) → n < 2 ^ 64 → end < 48 → position_or_len (ends end) (decimal n ++ (end ∷ rest)) ≡ length (decimal n)
 place_of_end n end rest small below =
     position_or_len_is (ends end) (decimal n ++ (end ∷ rest)) (length (decimal n)) 0 (omega (arith, length-append (decimal n) (end ∷ rest)))
     (λ k within. rw (get_or_append_left (decimal n) (end ∷ rest) 0 k within) (no_digit_ends n end k small below within))
     (λ _. rw (get_or-append_seam (decimal n) end rest 0) (search rules))
 
--- what stands before the first end is the number, and what stands behind it the rest
+-- what stands before the first end is the number, and what stands after it the rest
 pub parts_of : (n end : ℕ) (rest text : List ℕ) → n < 2 ^ 64 → end < 48 → text ≡ decimal n ++ (end ∷ rest) → (position_or_len (ends end) text < length text) × (before_first (ends end) text ≡ decimal n) × (after_first (ends end) text ≡ rest)
 parts_of n end rest text small below is =
     let place : position_or_len (ends end) text ≡ length (decimal n) = ap (position_or_len (ends end)) is ∙ place_of_end n end rest small below in
     let longer : length text ≡ length (decimal n) + (length rest + 1) = ap length is ∙ omega (arith, length-append (decimal n) (end ∷ rest)) in (
       omega arith,
       ap (λ k. take k text) place ∙ ap (take (length (decimal n))) is ∙ take_at (decimal n) (end ∷ rest) (length (decimal n)) refl,
-      ap (λ k. drop (k + 1) text) place ∙ ap (drop (length (decimal n) + 1)) is ∙ drop_behind (decimal n) end rest,
+      ap (λ k. drop (k + 1) text) place ∙ ap (drop (length (decimal n) + 1)) is ∙ drop_after (decimal n) end rest,
     )
   where
-    drop_behind : (xs : List ℕ) (y : ℕ) (ys : List ℕ) → drop (length xs + 1) (xs ++ (y ∷ ys)) ≡ ys
-    drop_behind xs y ys = drop-append-add xs (y ∷ ys) 1
+    drop_after : (xs : List ℕ) (y : ℕ) (ys : List ℕ) → drop (length xs + 1) (xs ++ (y ∷ ys)) ≡ ys
+    drop_after xs y ys = drop-append-add xs (y ∷ ys) 1
 
 -- a number in the plain form has no leading zero
 pub no_leading_zero : (n : ℕ) → n < 2 ^ 64 → 1 < length (decimal n) → get_or (decimal n) 0 0 ≡ 48 → ⊥
@@ -68,16 +68,16 @@ plain_from_number text n h plain =
     one_digit : (k : ℕ) → 0 < k → (1 < k → ⊥) → k ≡ 1
     one_digit k some few = omega arith
 
--- no number in the plain form, with the byte behind it, stands where none ends
+-- no number in the plain form, with the byte after it, stands where none ends
 pub no_number : (text : List ℕ) (end : ℕ) → end < 48 → position_or_len (ends end) text ≡ length text → (n : ℕ) (rest : List ℕ) → n < 2 ^ 64 → text ≢ decimal n ++ (end ∷ rest)
 no_number text end below none n rest small is = omega (arith, (parts_of n end rest text small below is).0)
 
--- what stands before and behind the first end is the whole
+-- what stands before and after the first end is the whole
 pub whole_from_parts : (text : List ℕ) (end : ℕ) → position_or_len (ends end) text < length text → text ≡ before_first (ends end) text ++ (end ∷ after_first (ends end) text)
 whole_from_parts text end within =
     split_at_first (ends end) text 0 within ∙ ap (λ byte. before_first (ends end) text ++ (byte ∷ after_first (ends end) text)) (eqb-true _ _ (passes_at_first (ends end) text 0 within))
 
--- two numbers in the plain form with the same byte behind them are one, and so is what follows
+-- two numbers in the plain form with the same byte after them are one, and so is what follows
 pub one_number : (m n end : ℕ) (x y : List ℕ) → m < 2 ^ 64 → n < 2 ^ 64 → end < 48 → decimal m ++ (end ∷ x) ≡ decimal n ++ (end ∷ y) → (m ≡ n) × (x ≡ y)
 one_number m n end x y m_small n_small below same =
     let left = parts_of m end x _ m_small below refl in

@@ -20,9 +20,9 @@ plain_line_is ask number rest h =
     regroup : (a b c : List ℕ) → (a ++ (32 ∷ (b ++ (10 ∷ [])))) ++ c ≡ a ++ (32 ∷ (b ++ (10 ∷ c)))
     regroup a b c = simp append_assoc
 
--- what stands behind the same two bytes
-pub behind_zero : (text front rest : List ℕ) → text ≡ codes "0 " ++ front → text ≡ codes "0 " ++ rest → front ≡ rest
-behind_zero text front rest p q = cc
+-- what stands after the same two bytes
+pub after_zero : (text prefix rest : List ℕ) → text ≡ codes "0 " ++ prefix → text ≡ codes "0 " ++ rest → prefix ≡ rest
+after_zero text prefix rest p q = cc
 
 -- a script and one more line
 pub plain_script-push : (asks : List Ask) (ask : Ask) → plain_script (asks ++ ask ∷ []) ≡ plain_script asks ++ plain_line ask
@@ -42,7 +42,7 @@ AreRequests-push number (first ∷ asks) ask h one =
     let same : number + length (first ∷ asks) ≡ number + 1 + length asks = omega arith in
     (h.0, AreRequests-push (number + 1) asks ask h.1 (subst (λ n. IsRequest n ask) same one))
 
--- the text so far, one more line, and the rest behind it
+-- the text so far, one more line, and the rest after it
 pub script_more : (bytes : List ℕ) (asks : List Ask) (ask : Ask) (rest after : List ℕ) → bytes ≡ plain_script asks ++ rest → rest ≡ plain_line ask ++ after → bytes ≡ plain_script (asks ++ ask ∷ []) ++ after
 script_more bytes asks ask rest after text line =
     text ∙ ap (λ l. plain_script asks ++ l) line ∙ sym (append_assoc (plain_script asks) (plain_line ask) after)

@@ -1,7 +1,6 @@
 -- The record of a map with one client, and what a request leaves of it.
-use Rattle.std.proofs.Common.{◌≡◌, ℕ, zero, suc, ◌<◌, ◌≤◌, Bool, true, false, cond, eqb, List, [], ◌∷◌, length, drop, sum_by, slice_index_or, refl, sym, subst, ◌∙◌, inr, arith}
+use Rattle.std.proofs.Common.{◌≡◌, ℕ, ◌+◌, ◌*◌, ◌<◌, ◌≤◌, Bool, true, false, cond, eqb, List, length, drop, refl, sym, ap, subst, ◌∙◌, inr, arith}
 use Rattle.std.proofs.lemmas.List.{length-set}
-use Rattle.std.proofs.lemmas.List.Sums.{sum_by-cons}
 use Rattle.pb_pmem.specs.declared.line.Line.{Line}
 use Rattle.pb_pmem.specs.Lines.{line_at}
 use Rattle.pb_object.specs.declared.kind.Kind.{Kind}
@@ -10,23 +9,28 @@ use Rattle.pb_object.specs.declared.codes.Answer.TheVariants.{Was}
 use Rattle.pb_object.specs.declared.request.Kept.{Kept}
 use Rattle.pb_object.specs.declared.request.Op.{Op}
 use Rattle.pb_object.specs.declared.request.Reply.{Reply}
-use Rattle.pb_object.specs.declared.request.TheConstants.{LAST_NUMBER}
+use Rattle.pb_object.specs.declared.request.TheConstants.{KEPT_REQUESTS, LAST_NUMBER}
 use Rattle.pb_object.specs.Codes.{answer_code}
 use Rattle.pb_object.specs.Map.{Register, map_reply, next_registers}
 use Rattle.pb_object.specs.Object.{Registers}
-use Rattle.pb_object.specs.ObjectLines.{StandFor}
-use Rattle.pb_object.specs.Request.{none_kept, IsOperation}
+use Rattle.pb_object.specs.ObjectLines.{LinesRepresent}
+use Rattle.pb_object.specs.Request.{IsOperation}
+use Rattle.pb_object.specs.Standing.{newest}
 use Rattle.pb_layout.specs.declared.header.Header.{Header}
-use Rattle.pb_layout.specs.ClientLine.{client_line_of, IsKept}
-use Rattle.pb_layout.specs.Record.{count_line_of, client_line_at, IsRecord}
-use Rattle.pb_layout.proofs.Records.{record_of_kept}
+use Rattle.pb_layout.specs.ClientLine.{IsKept}
+use Rattle.pb_layout.specs.Header.{word}
+use Rattle.pb_layout.specs.Record.{count_line_of, client_line_at, kept_in_slots, number_sum, IsSlot, IsRecord}
+use Rattle.pb_layout.proofs.Records.{number_sum-none, number_sum-more}
 use Rattle.pb_layout.proofs.Replies.{map_replies, map_side}
+use Rattle.pb_layout.proofs.SlotLemmas.{newest-kept_from, slots_fall}
+use Rattle.pb_layout_laws.proofs.NextRecord.{slot_of_entry}
+use Rattle.pb_broker.specs.RegionLines.{IsInFront}
 
--- the lines of a record: its round, the request of its one client, and a map's registers
-pub record IsFilled (round : ℕ) (kept : Kept) (registers : List Register) (lines : List Line) : Type 0 where
+-- the lines of a record: its round, a request in front of the slots of the record before, and a map's registers
+pub record IsFilled (round : ℕ) (before : List Line) (kept : Kept) (registers : List Register) (lines : List Line) : Type 0 where
   pub first : line_at lines 0 ≡ count_line_of round
-  pub second : line_at lines 1 ≡ client_line_of kept
-  pub objects : StandFor (drop 2 lines) (Registers registers)
+  pub slots : IsInFront before kept lines
+  pub objects : LinesRepresent (drop 9 lines) (Registers registers)
 
 -- an operation leaves as many registers
 pub length-next_registers : (registers : List Register) (op : Op) → length (next_registers registers op) ≡ length registers
@@ -46,21 +50,27 @@ kept_after registers number op out some few operation is = inr (record {
   reply = rw is (map_replies registers op operation);
 })
 
-one_number : (kept : Kept) → sum_by (λ (k : Kept). k.number) (kept ∷ []) ≡ kept.number
-one_number kept = sum_by-cons (λ (k : Kept). k.number) kept [] ∙ omega arith
+-- the newest number in the slots of a record with one client
+pub newest_number : (head : Header) (round : ℕ) (lines : List Line) → head.clients ≡ 1 → IsRecord head 0 round lines → (newest (kept_in_slots lines 0)).number ≡ word (client_line_at lines 0) 0
+newest_number head round lines clients own =
+    newest-kept_from lines 1 7 (slots_fall head 0 lines 0 own.slots (omega (arith, clients)))
 
--- lines that carry a round and one client's request are a record, where the round isn't greater than the request's number
-pub one_client_record : (head : Header) (round : ℕ) (kept : Kept) (registers : List Register) (lines : List Line) → head.kind ≡ Map → head.clients ≡ 1 → 2 ≤ length lines → IsFilled round kept registers lines → IsKept Map 0 kept → round ≤ kept.number → IsRecord head 0 round lines
-one_client_record head round kept registers lines kind clients long filled allowed few =
-    record_of_kept head 0 round lines (kept ∷ []) (sym clients) (omega (arith, clients)) filled.first
-    (λ client inside. line_of client (omega (arith, clients)))
-    (λ client inside. kept_of client (omega (arith, clients)))
-    (omega (arith, one_number kept))
+-- as many rounds as the newest number, at most
+pub rounds_few : (head : Header) (round : ℕ) (lines : List Line) → head.clients ≡ 1 → IsRecord head 0 round lines → round ≤ (newest (kept_in_slots lines 0)).number
+rounds_few head round lines clients own =
+    omega (arith, own.rounds, ap (number_sum lines) clients, number_sum-more lines 0, number_sum-none lines, newest_number head round lines clients own)
+
+-- a record of the next round, whose request has a greater number than those before it
+pub one_client_record : (head : Header) (round : ℕ) (before : List Line) (kept : Kept) (registers : List Register) (lines : List Line) → head.kind ≡ Map → head.clients ≡ 1 → IsRecord head 0 round before → IsFilled (round + 1) before kept registers lines → IsKept Map 0 kept → (newest (kept_in_slots before 0)).number < kept.number → IsRecord head 0 (round + 1) lines
+one_client_record head round before kept registers lines kind clients own filled allowed newer = record {
+  carries = filled.first;
+  slots = λ place inside.
+      let at : KEPT_REQUESTS * 0 + place ≡ place = omega arith in
+      let below : place < KEPT_REQUESTS = omega (arith, inside, clients) in
+      subst (λ (k : Kind). IsSlot k 0 lines place) (sym kind) (subst (IsSlot Map 0 lines) at (slot_of_entry Map 0 before lines 0 kept place (record { newest_is = filled.slots.newest; shifted = filled.slots.shifted }) allowed (omega (arith, newer, newest_number head round before clients own)) slots below));
+  rounds = omega (arith, ap (number_sum lines) clients, number_sum-more lines 0, number_sum-none lines, ap (λ (l : Line). word l 0) filled.slots.newest, newer, rounds_few head round before clients own);
+}
   where
-    line_of : (client : ℕ) → client < 1 → client_line_at lines client ≡ client_line_of (slice_index_or (kept ∷ []) client none_kept)
-    line_of zero inside = filled.second
-    line_of (suc client) inside = absurd (omega arith)
-
-    kept_of : (client : ℕ) → client < 1 → IsKept head.kind 0 (slice_index_or (kept ∷ []) client none_kept)
-    kept_of zero inside = subst (λ (k : Kind). IsKept k 0 kept) (sym kind) allowed
-    kept_of (suc client) inside = absurd (omega arith)
+    slots : (slot : ℕ) → slot < KEPT_REQUESTS → IsSlot Map 0 before (KEPT_REQUESTS * 0 + slot)
+    slots slot below =
+        subst (λ (k : Kind). IsSlot k 0 before (KEPT_REQUESTS * 0 + slot)) kind (own.slots (KEPT_REQUESTS * 0 + slot) (omega (arith, clients)))

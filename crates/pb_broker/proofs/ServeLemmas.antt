@@ -1,23 +1,23 @@
--- Serving requests one behind the other.
-use Rattle.std.proofs.Common.{◌≡◌, ℕ, ◌+◌, ◌<◌, List, [], ◌∷◌, ◌++◌, length, take, drop, get_or, set, Option, Some, None, IfSome, ap, subst, sym, refl, ◌∙◌, ◌⊎◌, Result, Ok, Err, OnErr, arith}
+-- Serving requests one after the other.
+use Rattle.std.proofs.Common.{◌≡◌, ℕ, ◌+◌, ◌<◌, List, [], ◌∷◌, ◌++◌, length, take, drop, get_or, set, Some, ap, subst, sym, refl, ◌∙◌, ◌⊎◌, Result, Ok, Err, OnErr, arith}
 use Rattle.std.proofs.lemmas.List.{length-set, take_all, take-append-drop, length-take, drop_more}
 use Rattle.pb_pmem.specs.Count.{Rose}
-use Rattle.pb_pmem.specs.Device.{Tale}
 use Rattle.pb_object.specs.declared.request.Ask.{Ask}
 use Rattle.pb_object.specs.declared.request.Reply.{Reply}
 use Rattle.pb_object.specs.History.{Round, History, IsLegalRound, IsLegal, after_round, state_after}
 use Rattle.pb_object.specs.Object.{reply_of}
 use Rattle.pb_object.specs.Standing.{Standing}
-use Rattle.pb_layout_laws.specs.Exits.{sealed_round}
-use Rattle.pb_pair.specs.Safe.{IsReadyWith, IsLeftSafe, IsInDoubt}
-use Rattle.pb_pair.proofs.Safe.{where_told}
+use Rattle.pb_layout.specs.Exits.{sealed_round}
+use Rattle.pb_layout.specs.ToldExits.{IsReadyWith, IsCoveredExit, IsSealedAfter, IsInDoubt}
+use Rattle.pb_layout_laws.proofs.ToldCalls.{nothing_told}
 use Rattle.pb_broker.specs.History.{ServesEach, history_with, served}
 use Rattle.pb_broker.specs.Outcome.{alone, answered}
-use Rattle.pb_broker.specs.Region.{RegionView, standing_of, IsSound}
+use Rattle.pb_broker.specs.Region.{RegionView, standing_of, last_number, IsSound}
 use Rattle.pb_broker.specs.Script.{AreRequests}
-use Rattle.pb_broker.specs.Serving.{Holds, WhereReadyWith, IsServed, FailsToServe, IsSealedBehind, AreServed, IsCaught, FailsToServeAll}
-use Rattle.pb_broker.proofs.Behind.{nothing_done, sealed_then, stopped_then}
+use Rattle.pb_broker.specs.Serving.{DeviceRepresents, WhereReadyWith, IsServed, FailsToServe, AreServed, IsCaught, FailsToServeAll}
+use Rattle.pb_broker.proofs.After.{told_step, sealed_more, stopped_then}
 use Rattle.pb_broker.proofs.Histories.{state_after-push, IsLegal-push, history_with-nil, history_more, AreRequests-at, ServesEach-history, ServesEach-append, legal_run}
+use Rattle.pb_broker.proofs.ToldLines.{where_told}
 
 -- the first so many requests were served
 abbrev pub history_to : List Ask → List Reply → ℕ → History
@@ -26,19 +26,14 @@ history_to asks replies place = history_with (take place asks) (take place repli
 pub record IsServing (asks : List Ask) (replies : List Reply) (place : ℕ) (old now : RegionView) : Type 0 where
   pub sound : IsSound now
   pub places : length replies ≡ length asks
-  pub number : now.kept.number ≡ place
+  pub number : last_number now ≡ place
   pub legal : IsLegal (standing_of old) (history_to asks replies place)
   pub after : standing_of now ≡ state_after (standing_of old) (history_to asks replies place)
   pub faults : now.pair.device.faults ≡ old.pair.device.faults
-  pub holds : Holds (standing_of old) old.pair.device → Holds (standing_of now) now.pair.device
-  pub safe : WhereReadyWith (Some (standing_of old) ∷ []) old.pair.device (λ tale. IsSealedBehind tale now.pair.device (standing_of old) (history_to asks replies place))
+  pub holds : DeviceRepresents (standing_of old) old.pair.device → DeviceRepresents (standing_of now) now.pair.device
+  pub safe : WhereReadyWith (Some (standing_of old) ∷ []) old.pair.device (λ tale. IsSealedAfter tale now.pair.device (standing_of old) (history_to asks replies place))
 
--- what is shown where the log is told
-pub told_step : (Before After : Tale → Type 0) (told : Option Tale) → IfSome told Before → ((tale : Tale) → told ≡ Some tale → Before tale → After tale) → IfSome told After
-told_step Before After None before step = tt
-told_step Before After (Some tale) before step = step tale refl before
-
-pub serving_none : (asks : List Ask) (replies : List Reply) (old : RegionView) → IsSound old → length replies ≡ length asks → old.kept.number ≡ 0 → IsServing asks replies 0 old old
+pub serving_none : (asks : List Ask) (replies : List Reply) (old : RegionView) → IsSound old → length replies ≡ length asks → last_number old ≡ 0 → IsServing asks replies 0 old old
 serving_none asks replies old sound places number =
     let s = standing_of old in
     record {
@@ -49,7 +44,7 @@ serving_none asks replies old sound places number =
       after = ap (state_after s) (sym history_with-nil);
       faults = refl;
       holds = λ h. h;
-      safe = where_told (λ tale. IsReadyWith (Some s ∷ []) tale → IsSealedBehind tale old.pair.device s (history_with [] [])) old.pair.device.told (λ tale told ready. subst (IsSealedBehind tale old.pair.device s) (sym history_with-nil) (nothing_done tale old.pair.device s told ready));
+      safe = where_told (λ tale. IsReadyWith (Some s ∷ []) tale → IsSealedAfter tale old.pair.device s (history_with [] [])) old.pair.device.told (λ tale told ready. subst (IsSealedAfter tale old.pair.device s) (sym history_with-nil) (nothing_told told ready));
     }
 
 -- the round of a request that was answered so
@@ -73,7 +68,7 @@ serving_more asks replies place d reply old now new requests inside serving one 
       after = next ∙ (sym (state_after-push s history round) ∙ ap (state_after s) (sym is));
       faults = one.faults ∙ serving.faults;
       holds = λ h. one.holds (serving.holds h);
-      safe = told_step (λ tale. IsReadyWith (Some s ∷ []) tale → IsSealedBehind tale now.pair.device s history) (λ tale. IsReadyWith (Some s ∷ []) tale → IsSealedBehind tale new.pair.device s (history_to asks (set replies place reply) (place + 1))) old.pair.device.told serving.safe (λ tale told behind ready. subst (IsSealedBehind tale new.pair.device s) (sym is) (sealed_then tale now.pair.device new.pair.device s (standing_of new) history round (behind ready) next (subst (λ (t : Standing). WhereReadyWith (Some t ∷ []) now.pair.device (λ u. IsLeftSafe u new.pair.device t (sealed_round round ∷ []) (Some (standing_of new) ∷ []))) serving.after one.safe)));
+      safe = told_step (λ tale. IsReadyWith (Some s ∷ []) tale → IsSealedAfter tale now.pair.device s history) (λ tale. IsReadyWith (Some s ∷ []) tale → IsSealedAfter tale new.pair.device s (history_to asks (set replies place reply) (place + 1))) old.pair.device.told serving.safe (λ tale told after ready. subst (IsSealedAfter tale new.pair.device s) (sym is) (sealed_more tale now.pair.device new.pair.device s (standing_of new) history round (after ready) next (subst (λ (t : Standing). WhereReadyWith (Some t ∷ []) now.pair.device (λ u. IsCoveredExit u new.pair.device t (sealed_round round ∷ []) (Some (standing_of new) ∷ []))) serving.after one.safe)));
     }
 
 pub serving_fails : (asks : List Ask) (replies : List Reply) (place : ℕ) (d : Ask) (old now new : RegionView) → place < length asks → IsServing asks replies place old now → FailsToServe (get_or asks place d) now new → FailsToServeAll asks old new
@@ -89,7 +84,7 @@ serving_fails asks replies place d old now new inside serving fails =
     let legal = subst (λ (t : Standing). IsLegalRound t round) serving.after fails.legal in
     record {
       rose = subst (λ (n : ℕ). Rose n new.pair.device.faults) serving.faults fails.rose;
-      safe = told_step (λ tale. IsReadyWith (Some s ∷ []) tale → IsSealedBehind tale now.pair.device s history) (λ tale. IsReadyWith (Some s ∷ []) tale → IsCaught tale new.pair.device s asks) old.pair.device.told serving.safe (λ tale told behind ready. stopped_then tale now.pair.device new.pair.device s asks (take place asks) (drop (place + 1) asks) ask history round (behind ready) whole (legal_run s (take place asks) history serves serving.legal) (legal_run s (take place asks ++ ask ∷ []) (history ++ round ∷ []) (ServesEach-append (take place asks) (ask ∷ []) history (round ∷ []) serves one) (IsLegal-push s history round serving.legal legal)) serving.legal legal (subst (λ (t : Standing). WhereReadyWith (Some t ∷ []) now.pair.device (λ u. IsLeftSafe u new.pair.device t [] (Some t ∷ []) ⊎ IsInDoubt u new.pair.device t round)) serving.after fails.safe));
+      safe = told_step (λ tale. IsReadyWith (Some s ∷ []) tale → IsSealedAfter tale now.pair.device s history) (λ tale. IsReadyWith (Some s ∷ []) tale → IsCaught tale new.pair.device s asks) old.pair.device.told serving.safe (λ tale told after ready. stopped_then tale now.pair.device new.pair.device s asks (take place asks) (drop (place + 1) asks) ask history round (after ready) whole (legal_run s (take place asks) history serves serving.legal) (legal_run s (take place asks ++ ask ∷ []) (history ++ round ∷ []) (ServesEach-append (take place asks) (ask ∷ []) history (round ∷ []) serves one) (IsLegal-push s history round serving.legal legal)) serving.legal legal (subst (λ (t : Standing). WhereReadyWith (Some t ∷ []) now.pair.device (λ u. IsCoveredExit u new.pair.device t [] (Some t ∷ []) ⊎ IsInDoubt u new.pair.device t round)) serving.after fails.safe));
     }
 
 pub serving_all : (asks : List Ask) (replies : List Reply) (place : ℕ) (old now : RegionView) → place ≡ length asks → IsServing asks replies place old now → AreServed asks (history_with asks replies) old now
@@ -101,7 +96,7 @@ serving_all asks replies place old now end serving =
       after = serving.after ∙ ap (state_after s) is;
       faults = serving.faults;
       holds = serving.holds;
-      safe = subst (λ (h : History). WhereReadyWith (Some s ∷ []) old.pair.device (λ tale. IsSealedBehind tale now.pair.device s h)) is serving.safe;
+      safe = subst (λ (h : History). WhereReadyWith (Some s ∷ []) old.pair.device (λ tale. IsSealedAfter tale now.pair.device s h)) is serving.safe;
     }
 
 -- whatever an error shows

@@ -4,7 +4,6 @@ use Rattle.std.proofs.lemmas.List.{take_all, append-nil}
 use Rattle.std.proofs.lemmas.List.Elements.{All-nil}
 use Rattle.std.specs.Io.KnownBytes.{Appends, Keeps}
 use Rattle.std.proofs.KnownBytes.{Appends-kept}
-use Rattle.pb_pmem.specs.declared.line.Line.{Line as DeviceLine}
 use Rattle.pb_pmem.specs.declared.log.LogOp.{LogOp}
 use Rattle.pb_pmem.specs.Count.{Rose, HasCause}
 use Rattle.pb_pmem.specs.Device.{Device, Tale, IsWhole, IsReplay}
@@ -17,23 +16,23 @@ use Rattle.pb_object.specs.Standing.{Standing}
 use Rattle.pb_layout.specs.Covers.{Covers}
 use Rattle.pb_layout.specs.Damage.{HasRegion}
 use Rattle.pb_layout.specs.LogHistory.{LoggedRound, rounds_in, AreSealed}
-use Rattle.pb_layout.specs.Ready.{StandsForOne}
-use Rattle.pb_layout.proofs.OneAnswer.{region_from}
 use Rattle.pb_layout_laws.proofs.Preparing.{quiet_leaves}
 use Rattle.pb_layout_laws.proofs.Quiet.{IsQuiet}
-use Rattle.pb_pair.specs.Calls.{with_ops}
-use Rattle.pb_pair.specs.Safe.{held, IsReadyWith, IsLeftSafe}
-use Rattle.pb_pair.proofs.Safe.{told_length, where_told}
+use Rattle.pb_layout_laws.proofs.ToldCalls.{region_of_one}
+use Rattle.pb_pmem.specs.Operations.{with_ops}
+use Rattle.pb_layout.specs.ToldExits.{contents_of, IsReadyWith, IsCoveredExit, IsSealedAfter}
+use Rattle.pb_pair.proofs.Safe.{told_length}
 use Rattle.pb_broker.specs.declared.requests.Requests.{Requests}
 use Rattle.pb_broker.specs.declared.status.TheConstants.{DONE, OUT_OF_MEMORY, USAGE, REFUSED, READ_FAULT, WRITE_FAULT, DEVICE_FAULT, TAKEN}
-use Rattle.pb_broker.specs.declared.stop.Stop.{Stop}
-use Rattle.pb_broker.specs.declared.stop.Stop.TheVariants.{Memory, Usage, ReadFault, Long, Line, DeviceFault, Taken}
+use Rattle.pb_broker.specs.declared.stop.RunError.{RunError}
+use Rattle.pb_broker.specs.declared.stop.RunError.TheVariants.{Memory, Usage, ReadFault, Long, Line, DeviceFault, Taken}
 use Rattle.pb_broker.specs.History.{ServesEach, history_with, history_text, run_of}
 use Rattle.pb_broker.specs.Output.{usage_text, long_text, line_text, taken_text}
 use Rattle.pb_broker.specs.Run.{IsCommand, IsRunOf, IsRunStopped, Ran, RunStops, Printed, Prints, served_text}
-use Rattle.pb_broker.specs.Serving.{AreFound, fresh_map, Holds, WhereReadyWith, IsSealedBehind}
+use Rattle.pb_broker.specs.Serving.{AreFound, fresh_map, DeviceRepresents, WhereReadyWith}
 use Rattle.pb_broker.specs.Top.{Call, Output, Wrote, WroteSome, WroteNothing, WhereReady, told_history, IsCoveredCall, IsSafeCall, IsDurable, IsInterrupted, IsRun, IsSameDevice, SaysUsage, SaysRefusal, SaysTaken, SaysRun, SaysSome, HasFault, IsAnswered}
 use Rattle.pb_broker.specs.Words.{IsFreshMap}
+use Rattle.pb_broker.proofs.ToldLines.{where_told}
 use Rattle.pb_broker.proofs.Histories.{ServesEach-history, legal_run}
 
 -- The words and the history
@@ -49,7 +48,7 @@ one_size first second =
 
 -- What a crash leaves
 
--- what is shown of the tale behind a call, from what is shown where the device was ready with no region
+-- what is shown of the tale after a call, from what is shown where the device was ready with no region
 where_ready : (call : Call) (Known : Tale → Type 0) (Shown : Tale → Tale → Type 0) → WhereReadyWith (None ∷ []) call.before Known → ((tale : Tale) → call.before.told ≡ Some tale → IsReadyWith (None ∷ []) tale → Known tale → (after : Tale) × (call.after.told ≡ Some after) × Shown tale after) → WhereReady call Shown
 where_ready call Known Shown known shown = go call.before.told refl known
   where
@@ -58,7 +57,7 @@ where_ready call Known Shown known shown = go call.before.told refl known
     go (Some tale) is h = λ ready. shown tale is ready (h ready)
 
 -- a device that wasn't called leaves what it held
-unchanged_left : (device : Device) (tale : Tale) (s : Standing) → IsWhole device → IsReplay device → device.told ≡ Some tale → IsReadyWith (None ∷ []) tale → IsLeftSafe tale device s [] (None ∷ [])
+unchanged_left : (device : Device) (tale : Tale) (s : Standing) → IsWhole device → IsReplay device → device.told ≡ Some tale → IsReadyWith (None ∷ []) tale → IsCoveredExit tale device s [] (None ∷ [])
 unchanged_left device tale s whole replay told ready = record {
   ops = [];
   told = told ∙ ap (λ (l : List LogOp). Some (record tale { log = l })) (sym (append-nil tale.log));
@@ -67,28 +66,23 @@ unchanged_left device tale s whole replay told ready = record {
 
 module _ (size : ℕ) (tale : Tale) (new : Device) where
   -- a legal history that is left covers the call
-  covered_call : (history : List LoggedRound) (members : List (Option Standing)) (left : IsLeftSafe tale new (fresh_map size) history members) → IsLegal (fresh_map size) (rounds_in history) → IsCoveredCall size tale (with_ops left.ops tale)
+  covered_call : (history : List LoggedRound) (members : List (Option Standing)) (left : IsCoveredExit tale new (fresh_map size) history members) → IsLegal (fresh_map size) (rounds_in history) → IsCoveredCall size tale (with_ops left.ops tale)
   covered_call history members left legal = record {
     ops = left.ops;
     grown = refl;
     covers = subst (Covers tale.base (tale.log ++ left.ops) (length tale.log) (fresh_map size)) left.exit.covers.told left.exit.covers;
-    stepwise = left.exit.stepwise;
+    one_unsealed = left.exit.one_unsealed;
     legal = subst (λ (h : List LoggedRound). IsLegal (fresh_map size) (rounds_in h)) left.exit.covers.told legal;
   }
 
-  -- whatever the device holds behind it
-  safe_call : (history : List LoggedRound) (members : List (Option Standing)) (left : IsLeftSafe tale new (fresh_map size) history members) → IsLegal (fresh_map size) (rounds_in history) → (¬ HasRegion (held (with_ops left.ops tale)) → IsReadyWith (None ∷ []) (with_ops left.ops tale)) → IsSafeCall size tale (with_ops left.ops tale)
+  -- whatever the device holds after it
+  safe_call : (history : List LoggedRound) (members : List (Option Standing)) (left : IsCoveredExit tale new (fresh_map size) history members) → IsLegal (fresh_map size) (rounds_in history) → (¬ HasRegion (contents_of (with_ops left.ops tale)) → IsReadyWith (None ∷ []) (with_ops left.ops tale)) → IsSafeCall size tale (with_ops left.ops tale)
   safe_call history members left legal nothing = record {
     covered = covered_call history members left legal;
     members = members;
     ready = left.exit.ready;
     nothing = nothing;
   }
-
--- lines that stand for a region alone have one
-has_region : (lines : List DeviceLine) (s : Standing) → StandsForOne lines (Some s ∷ []) → HasRegion lines
-has_region lines s (inl stands) = region_from lines s stands
-has_region lines s (inr never) = absurd never
 
 -- where the device wasn't called
 same_safe : (call : Call) (size : ℕ) → IsWhole call.before → IsReplay call.before → IsSameDevice call → WhereReady call (IsSafeCall size)
@@ -109,56 +103,56 @@ module _ (call : Call) (size : ℕ) (asks : List Ask) (replies : List Reply) (ru
   is_run = record {
     legal = subst (IsLegal (fresh_map size)) run_is run.legal;
     text_is = ap history_text run_is;
-    holds = subst (λ (h : History). Holds (state_after (fresh_map size) h) call.after) run_is run.holds;
+    holds = subst (λ (h : History). DeviceRepresents (state_after (fresh_map size) h) call.after) run_is run.holds;
   }
 
-  module _ (tale : Tale) (behind : IsSealedBehind tale call.after (fresh_map size) rounds) where
+  module _ (tale : Tale) (after : IsSealedAfter tale call.after (fresh_map size) rounds) where
     abbrev end : Tale
-    end = with_ops behind.left.ops tale
+    end = with_ops after.left.ops tale
 
     told : rounds ≡ told_history tale end
-    told = sym behind.rounds_are ∙ ap rounds_in behind.left.exit.covers.told
+    told = sym after.rounds_are ∙ ap rounds_in after.left.exit.covers.told
 
-    legal : IsLegal (fresh_map size) (rounds_in behind.history)
-    legal = subst (IsLegal (fresh_map size)) (sym behind.rounds_are) run.legal
+    legal : IsLegal (fresh_map size) (rounds_in after.history)
+    legal = subst (IsLegal (fresh_map size)) (sym after.rounds_are) run.legal
 
     run_safe_call : IsSafeCall size tale end
-    run_safe_call = safe_call size tale call.after behind.history (Some (state_after (fresh_map size) rounds) ∷ []) behind.left legal (λ none. absurd (none (has_region (held end) (state_after (fresh_map size) rounds) behind.left.exit.ready.holds)))
+    run_safe_call = safe_call size tale call.after after.history (Some (state_after (fresh_map size) rounds) ∷ []) after.left legal (λ none. absurd (none (region_of_one (contents_of end) (state_after (fresh_map size) rounds) after.left.exit.ready.holds)))
 
     durable_call : IsDurable size asks (history_text rounds) tale end
     durable_call = record {
-      covered = covered_call size tale call.after behind.history (Some (state_after (fresh_map size) rounds) ∷ []) behind.left legal;
-      sealed = subst AreSealed behind.left.exit.covers.told behind.sealed;
+      covered = covered_call size tale call.after after.history (Some (state_after (fresh_map size) rounds) ∷ []) after.left legal;
+      sealed = subst AreSealed after.left.exit.covers.told after.sealed;
       each = subst (ServesEach asks) told (ServesEach-history asks replies run.places);
       text_is = ap history_text told;
-      ready = subst (λ (h : History). IsReadyWith (Some (state_after (fresh_map size) h) ∷ []) end) told behind.left.exit.ready;
+      ready = subst (λ (h : History). IsReadyWith (Some (state_after (fresh_map size) h) ∷ []) end) told after.left.exit.ready;
     }
 
   run_safe : WhereReady call (IsSafeCall size)
   run_safe =
-      where_ready call (λ tale. IsSealedBehind tale call.after (fresh_map size) rounds) (IsSafeCall size) run.safe (λ tale is ready behind. (end tale behind, behind.left.told, run_safe_call tale behind))
+      where_ready call (λ tale. IsSealedAfter tale call.after (fresh_map size) rounds) (IsSafeCall size) run.safe (λ tale is ready after. (end tale after, after.left.told, run_safe_call tale after))
 
   run_durable : WhereReady call (IsDurable size asks (history_text rounds))
   run_durable =
-      where_ready call (λ tale. IsSealedBehind tale call.after (fresh_map size) rounds) (IsDurable size asks (history_text rounds)) run.safe (λ tale is ready behind. (end tale behind, behind.left.told, durable_call tale behind))
+      where_ready call (λ tale. IsSealedAfter tale call.after (fresh_map size) rounds) (IsDurable size asks (history_text rounds)) run.safe (λ tale is ready after. (end tale after, after.left.told, durable_call tale after))
 
 -- where a call of the device failed
 module _ (call : Call) (size : ℕ) (asks : List Ask) (stopped : WhereReadyWith (None ∷ []) call.before (λ tale. IsRunStopped tale call.after size asks)) where
   fault_safe : WhereReady call (IsSafeCall size)
   fault_safe =
       where_ready call (λ tale. IsRunStopped tale call.after size asks) (IsSafeCall size) stopped (λ tale is ready stop.
-      let left = stop.behind.left in
-      (with_ops left.ops tale, left.told, safe_call size tale call.after stop.behind.history stop.behind.members left stop.behind.legal (subst (λ (told : Option Tale). IfSome told (λ end. ¬ HasRegion (held end) → IsReadyWith (None ∷ []) end)) left.told stop.nothing)))
+      let left = stop.after.left in
+      (with_ops left.ops tale, left.told, safe_call size tale call.after stop.after.history stop.after.members left stop.after.legal (subst (λ (told : Option Tale). IfSome told (λ end. ¬ HasRegion (contents_of end) → IsReadyWith (None ∷ []) end)) left.told stop.nothing)))
 
   fault_interrupted : WhereReady call (IsInterrupted size asks)
   fault_interrupted =
       where_ready call (λ tale. IsRunStopped tale call.after size asks) (IsInterrupted size asks) stopped (λ tale is ready stop.
-      let left = stop.behind.left in (
+      let left = stop.after.left in (
         with_ops left.ops tale,
         left.told,
         record {
-          members = stop.behind.members;
-          found = subst (λ (h : List LoggedRound). AreFound size asks (rounds_in h) stop.behind.members) left.exit.covers.told stop.found;
+          members = stop.after.members;
+          found = subst (λ (h : List LoggedRound). AreFound size asks (rounds_in h) stop.after.members) left.exit.covers.told stop.found;
           ready = left.exit.ready;
         },
       ))
@@ -169,7 +163,7 @@ module _ (call : Call) (size : ℕ) (asks : List Ask) (stopped : WhereReadyWith 
 abbrev IsSafe : Call → Type 0
 IsSafe call = (size : ℕ) → IsFreshMap call.read.words size → WhereReady call (IsSafeCall size)
 
-safe_by : (call : Call) (outcome : Result Requests Stop) → MatchResult outcome (Ran call) (RunStops call) → IsWhole call.before → IsReplay call.before → IsSafe call
+safe_by : (call : Call) (outcome : Result Requests RunError) → MatchResult outcome (Ran call) (RunStops call) → IsWhole call.before → IsReplay call.before → IsSafe call
 safe_by call (Ok script) ran whole replay size fresh =
     subst (λ (n : ℕ). WhereReady call (IsSafeCall n)) (one_size ran.scripted.command fresh) (run_safe call script.size script.asks.items script.replies.items ran.run)
 safe_by call (Err Memory) stops whole replay size fresh = same_safe call size whole replay stops.1
@@ -412,7 +406,7 @@ has_fault call stops = record {
 same_faults : (call : Call) → IsSameDevice call → call.after.faults ≡ call.before.faults
 same_faults call same = ap (λ (device : Device). device.faults) same
 
-answer : (call : Call) (output : Output) (status : ℕ) (outcome : Result Requests Stop) → IsSafe call → MatchResult outcome (Ran call) (RunStops call) → Prints output outcome status → IsAnswered call output status
+answer : (call : Call) (output : Output) (status : ℕ) (outcome : Result Requests RunError) → IsSafe call → MatchResult outcome (Ran call) (RunStops call) → Prints output outcome status → IsAnswered call output status
 answer call output status (Ok script) safe ran (inl all) =
     at_done call output status safe all.0 (says_run call script (Wrote output) ran all.1) all.2 ran.reads ran.run.faults
 answer call output status (Ok script) safe ran (inr fault) =
@@ -441,6 +435,6 @@ answer call output status (Err Taken) safe stops (inr fault) =
     at_fault call output status safe fault.0 (inr (inr (inl (says_taken call (WroteSome output) stops fault.1)))) fault.2 stops.reads (same_faults call stops.how.0)
 
 -- what a run came to, and how that was printed, answer the call
-pub answered_by : (call : Call) (output : Output) (status : ℕ) (outcome : Result Requests Stop) → MatchResult outcome (Ran call) (RunStops call) → Prints output outcome status → IsWhole call.before → IsReplay call.before → IsAnswered call output status
+pub answered_by : (call : Call) (output : Output) (status : ℕ) (outcome : Result Requests RunError) → MatchResult outcome (Ran call) (RunStops call) → Prints output outcome status → IsWhole call.before → IsReplay call.before → IsAnswered call output status
 answered_by call output status outcome ran prints whole replay =
     answer call output status outcome (safe_by call outcome ran whole replay) ran prints

@@ -17,7 +17,7 @@ pub record ScriptsAgree : Type 0 where
   pub whole : (bytes : List ℕ) (asks : List Ask) (line : ℕ) → length bytes ≤ SOURCE_LIMIT → IsScript bytes asks → ¬ IsRefused line bytes
   pub first : (bytes : List ℕ) (m n : ℕ) → length bytes ≤ SOURCE_LIMIT → IsRefused m bytes → IsRefused n bytes → m ≡ n
 
--- a get behind a put, and behind operations on other registers, answers what was put, and the version that the put gave
+-- a get after a put, and after operations on other registers, answers what was put, and the version that the put gave
 abbrev pub GetAnswersThePut : List Register → Op → List Op → Op → Type 0
 GetAnswersThePut registers put others get =
     reply_of (after_operations (next_state (Registers registers) put) others) get

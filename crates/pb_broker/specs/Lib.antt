@@ -4,6 +4,7 @@ pub mod Outcome
 pub mod Output
 pub mod Pieces
 pub mod Region
+pub mod RegionLines
 pub mod Run
 pub mod Script
 pub mod Serving

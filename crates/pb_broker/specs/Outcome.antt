@@ -12,7 +12,7 @@ new_line client number reply = decimal client ++ (codes " " ++ (decimal number +
 abbrev pub entry_line : Entry → List ℕ
 entry_line entry = new_line entry.client entry.number (reply_text entry.op entry.reply)
 
--- the lines of entries, one behind the other
+-- the lines of entries, one after the other
 unfoldable pub entries_text : List Entry → List ℕ
 entries_text [] = []
 entries_text (entry ∷ entries) = entry_line entry ++ entries_text entries

@@ -12,15 +12,15 @@ use Rattle.pb_layout.specs.LogHistory.{rounds_in}
 use Rattle.pb_pair.specs.declared.why.Why.{Why}
 use Rattle.pb_pair.specs.declared.why.Why.TheVariants.{Memory as MemoryWhy, Device as DeviceWhy, Taken as TakenWhy, NoRegion, Damaged}
 use Rattle.pb_pair.specs.Format.{HadNoRegion}
-use Rattle.pb_pair.specs.Safe.{held, IsReadyWith}
+use Rattle.pb_layout.specs.ToldExits.{contents_of, IsReadyWith, IsSealedAfter}
 use Rattle.pb_broker.specs.declared.requests.Requests.{Requests}
 use Rattle.pb_broker.specs.declared.status.TheConstants.{DONE, OUT_OF_MEMORY, USAGE, REFUSED, READ_FAULT, WRITE_FAULT, DEVICE_FAULT, TAKEN}
-use Rattle.pb_broker.specs.declared.stop.Stop.{Stop}
-use Rattle.pb_broker.specs.declared.stop.Stop.TheVariants.{Memory, Usage, ReadFault, Long, Line, DeviceFault, Taken}
+use Rattle.pb_broker.specs.declared.stop.RunError.{RunError}
+use Rattle.pb_broker.specs.declared.stop.RunError.TheVariants.{Memory, Usage, ReadFault, Long, Line, DeviceFault, Taken}
 use Rattle.pb_broker.specs.History.{history_with, history_text}
 use Rattle.pb_broker.specs.Output.{usage_text, long_text, line_text, taken_text}
 use Rattle.pb_broker.specs.Script.{AreRequests}
-use Rattle.pb_broker.specs.Serving.{fresh_map, Holds, WhereReadyWith, IsSealedBehind, IsStoppedBehind, AreFound}
+use Rattle.pb_broker.specs.Serving.{fresh_map, DeviceRepresents, WhereReadyWith, IsStoppedAfter, AreFound}
 use Rattle.pb_broker.specs.Top.{Reading, Call, Output, Wrote, WroteSome, WroteNothing, IsUsage, IsLong, IsRefusedLine, IsSameDevice, IsScripted}
 use Rattle.pb_broker.specs.Words.{IsFreshMap}
 
@@ -45,7 +45,7 @@ pub record IsWrong (read : Reading) (Why : Type 0) : Type 0 where
   pub reads : read.faults ≡ read.faults_before
 
 -- why a run stops before it calls the device
-abbrev pub StopsBefore : Reading → Stop → Type 0
+abbrev pub StopsBefore : Reading → RunError → Type 0
 StopsBefore read Memory = IsCommand read × (read.faults ≡ read.faults_before)
 StopsBefore read Usage = IsUsage read × (read.faults ≡ read.faults_before) × Keeps read.source read.left
 StopsBefore read ReadFault = IsCommand read × Rose read.faults_before read.faults
@@ -62,8 +62,8 @@ pub record IsRunOf (size : ℕ) (asks : List Ask) (replies : List Reply) (before
   pub legal : IsLegal (fresh_map size) (history_with asks replies)
   pub faults : after.faults ≡ before.faults
   pub no_region : IfSome before.now (λ lines. ¬ HasRegion lines)
-  pub holds : Holds (state_after (fresh_map size) (history_with asks replies)) after
-  pub safe : WhereReadyWith (None ∷ []) before (λ tale. IsSealedBehind tale after (fresh_map size) (history_with asks replies))
+  pub holds : DeviceRepresents (state_after (fresh_map size) (history_with asks replies)) after
+  pub safe : WhereReadyWith (None ∷ []) before (λ tale. IsSealedAfter tale after (fresh_map size) (history_with asks replies))
 
 -- the script is as it was, with its replies
 pub record HasRun (script : Requests) (before after : Device) (served : Requests) : Type 0 where
@@ -72,13 +72,13 @@ pub record HasRun (script : Requests) (before after : Device) (served : Requests
   pub run : IsRunOf script.size script.asks.items served.replies.items before after
 
 -- a call of the device failed; where the device then holds no region, it is ready with none alone
-pub record IsRunStopped (tale : Tale) (after : Device) (size : ℕ) (asks : List Ask) : Type 0 where
-  pub behind : IsStoppedBehind tale after (fresh_map size)
-  pub found : AreFound size asks (rounds_in behind.history) behind.members
-  pub nothing : IfSome after.told (λ end. ¬ HasRegion (held end) → IsReadyWith (None ∷ []) end)
+pub record IsRunStopped (tale : Tale) (new : Device) (size : ℕ) (asks : List Ask) : Type 0 where
+  pub after : IsStoppedAfter tale new (fresh_map size)
+  pub found : AreFound size asks (rounds_in after.history) after.members
+  pub nothing : IfSome new.told (λ end. ¬ HasRegion (contents_of end) → IsReadyWith (None ∷ []) end)
 
 -- why a run stops on the device, and what stands then
-abbrev pub StopsRun : Requests → Device → Device → Stop → Type 0
+abbrev pub StopsRun : Requests → Device → Device → RunError → Type 0
 StopsRun script before after Memory = after ≡ before
 StopsRun script before after DeviceFault = Rose before.faults after.faults × HadNoRegion before after × WhereReadyWith (None ∷ []) before (λ tale. IsRunStopped tale after script.size script.asks.items)
 StopsRun script before after Taken = (after ≡ before) × IfSome before.now HasRegion
@@ -87,8 +87,16 @@ StopsRun script before after ReadFault = ⊥
 StopsRun script before after Long = ⊥
 StopsRun script before after (Line line) = ⊥
 
--- what an unformatted device comes to: of these, formatting refuses for want of memory, by a fault, or where there is a region
-abbrev pub stop_for : Why → Stop
+-- formatting refuses for want of memory, by a fault, or where there is a region
+abbrev pub IsFormatWhy : Why → Type 0
+IsFormatWhy MemoryWhy = Unit {0}
+IsFormatWhy (DeviceWhy fault) = Unit {0}
+IsFormatWhy TakenWhy = Unit {0}
+IsFormatWhy NoRegion = ⊥
+IsFormatWhy (Damaged line) = ⊥
+
+-- what an unformatted device comes to; the last two don't come
+abbrev pub stop_for : Why → RunError
 stop_for MemoryWhy = Memory
 stop_for (DeviceWhy fault) = DeviceFault
 stop_for TakenWhy = Taken
@@ -112,7 +120,7 @@ pub record IsHeldUp (call : Call) (How : ℕ → List Ask → Type 0) : Type 0 w
   pub reads : call.read.faults ≡ call.read.faults_before
 
 -- why a run stops, and what stands then
-abbrev pub RunStops : Call → Stop → Type 0
+abbrev pub RunStops : Call → RunError → Type 0
 RunStops call Memory = IsCommand call.read × IsSameDevice call × (call.read.faults ≡ call.read.faults_before)
 RunStops call Usage = StopsBefore call.read Usage × IsSameDevice call
 RunStops call ReadFault = StopsBefore call.read ReadFault × IsSameDevice call
@@ -127,7 +135,7 @@ RunStops call Taken = IsHeldUp call (λ size asks. IsSameDevice call × IfSome c
 abbrev pub served_text : Requests → List ℕ
 served_text served = history_text (history_with served.asks.items served.replies.items)
 
--- a text was written whole, with this status; or a write failed behind some of it
+-- a text was written whole, with this status; or a write failed after some of it
 abbrev pub Printed : Output → List ℕ → ℕ → ℕ → Type 0
 Printed output text whole status =
     ((status ≡ whole) × Wrote output text × (output.writes ≡ output.writes_before))
@@ -138,7 +146,7 @@ abbrev pub Silent : Output → ℕ → ℕ → Type 0
 Silent output only status = (status ≡ only) × WroteNothing output × (output.writes ≡ output.writes_before)
 
 -- how an outcome is printed
-abbrev pub Prints : Output → Result Requests Stop → ℕ → Type 0
+abbrev pub Prints : Output → Result Requests RunError → ℕ → Type 0
 Prints output (Ok served) status = Printed output (served_text served) DONE status
 Prints output (Err Memory) status = Silent output OUT_OF_MEMORY status
 Prints output (Err Usage) status = Printed output usage_text USAGE status

@@ -5,14 +5,14 @@ use Rattle.pb_object.specs.declared.request.Ask.{Ask}
 use Rattle.pb_object.specs.declared.request.Op.{Op}
 use Rattle.pb_object.specs.Request.{IsOperation}
 use Rattle.pb_object.specs.Text.{op_text}
-use Rattle.pb_broker.specs.declared.stop.Stop.{Stop}
-use Rattle.pb_broker.specs.declared.stop.Stop.TheVariants.{Memory, Usage, ReadFault, Long, Line, DeviceFault, Taken}
+use Rattle.pb_broker.specs.declared.stop.RunError.{RunError}
+use Rattle.pb_broker.specs.declared.stop.RunError.TheVariants.{Memory, Usage, ReadFault, Long, Line, DeviceFault, Taken}
 
 -- a request line in the plain form, as `0 1 put 3 77` with its line feed
 abbrev pub plain_line : Ask → List ℕ
 plain_line ask = decimal ask.client ++ (codes " " ++ (decimal ask.number ++ (codes " " ++ (op_text ask.op ++ codes "\n"))))
 
--- the lines of some requests, one behind the other
+-- the lines of some requests, one after the other
 unfoldable pub plain_script : List Ask → List ℕ
 plain_script [] = []
 plain_script (ask ∷ asks) = plain_line ask ++ plain_script asks
@@ -51,7 +51,7 @@ pub record IsRefused (line : ℕ) (bytes : List ℕ) : Type 0 where
   pub refused : (ask : Ask) (tail : List ℕ) → IsRequest line ask → rest ≢ plain_line ask ++ tail
 
 -- why reading a script stops: memory, or the first line that is refused
-abbrev pub StopsAtLine : List ℕ → Stop → Type 0
+abbrev pub StopsAtLine : List ℕ → RunError → Type 0
 StopsAtLine bytes Memory = Unit {0}
 StopsAtLine bytes (Line line) = IsRefused line bytes
 StopsAtLine bytes Usage = ⊥

@@ -13,19 +13,19 @@ use Rattle.pb_layout.specs.Covers.{Covers}
 use Rattle.pb_layout.specs.Damage.{HasRegion}
 use Rattle.pb_layout.specs.LogHistory.{rounds_in, AreSealed, history_of}
 use Rattle.pb_layout.specs.Ready.{IsReady}
-use Rattle.pb_layout_laws.specs.Exits.{IsStepwise}
-use Rattle.pb_pair.specs.Calls.{with_ops}
+use Rattle.pb_layout.specs.Exits.{HasOneUnsealedAtMostAlways}
+use Rattle.pb_pmem.specs.Operations.{with_ops}
 use Rattle.pb_pair.specs.Format.{HadNoRegion}
 use Rattle.pb_broker.specs.declared.source.TheConstants.{SOURCE_LIMIT}
 use Rattle.pb_broker.specs.declared.status.TheConstants.{DONE, OUT_OF_MEMORY, USAGE, REFUSED, READ_FAULT, WRITE_FAULT, DEVICE_FAULT, TAKEN}
 use Rattle.pb_broker.specs.History.{ServesEach, run_of, history_text}
 use Rattle.pb_broker.specs.Output.{usage_text, long_text, line_text, taken_text}
 use Rattle.pb_broker.specs.Script.{IsScript, IsRefused}
-use Rattle.pb_broker.specs.Serving.{fresh_map, Holds, AreFound}
+use Rattle.pb_broker.specs.Serving.{fresh_map, DeviceRepresents, AreFound}
 use Rattle.pb_broker.specs.Words.{IsFreshMap}
 
 -- what a call reads: its words; the source's bytes before it and those that are left, where they are told; and how often the source
--- had failed before it and behind it
+-- had failed before it and after it
 pub record Reading : Type 0 where
   pub words : List (List ℕ)
   pub source : Option (List ℕ)
@@ -33,13 +33,13 @@ pub record Reading : Type 0 where
   pub faults_before : ℕ
   pub faults : ℕ
 
--- a call of the program: what it read, and the device before it and behind it
+-- a call of the program: what it read, and the device before it and after it
 pub record Call : Type 0 where
   pub read : Reading
   pub before : Device
   pub after : Device
 
--- a sink: its bytes before a call and behind it, where they are told; and how often it had failed
+-- a sink: its bytes before a call and after it, where they are told; and how often it had failed
 pub record Output : Type 0 where
   pub before : Option (List ℕ)
   pub after : Option (List ℕ)
@@ -63,15 +63,15 @@ pub record IsScripted (read : Reading) (size : ℕ) (asks : List Ask) : Type 0 w
   pub end : IsAtEnd read.left
 
 -- a run: the requests are served one after another from the fresh map, each in a round of its own; the text is that of their
--- history, and the device holds the state behind it
+-- history, and the device holds the state after it, with each of the client's last eight requests and its reply
 pub record IsRun (size : ℕ) (asks : List Ask) (text : List ℕ) (device : Device) : Type 0 where
   pub legal : IsLegal (fresh_map size) (run_of (fresh_map size) asks)
   pub text_is : text ≡ history_text (run_of (fresh_map size) asks)
-  pub holds : Holds (state_after (fresh_map size) (run_of (fresh_map size) asks)) device
+  pub holds : DeviceRepresents (state_after (fresh_map size) (run_of (fresh_map size) asks)) device
 
 -- What a crash leaves, where the device tells its log
 
--- a device that was ready with no region, with what it tells before the call and behind it
+-- a device that was ready with no region, with what it tells before the call and after it
 abbrev pub WhereReady : Call → (Tale → Tale → Type 0) → Type 0
 WhereReady call Shown =
     IfSome call.before.told (λ before. IsReady before.base before.log (None ∷ []) → (after : Tale) × (call.after.told ≡ Some after) × Shown before after)
@@ -86,7 +86,7 @@ pub record IsCoveredCall (size : ℕ) (before after : Tale) : Type 0 where
   pub ops : List LogOp
   pub grown : after ≡ with_ops ops before
   pub covers : Covers after.base after.log (length before.log) (fresh_map size) (history_of after.base after.log (length before.log))
-  pub stepwise : IsStepwise after.base after.log (length before.log)
+  pub one_unsealed : HasOneUnsealedAtMostAlways after.base after.log (length before.log)
   pub legal : IsLegal (fresh_map size) (told_history before after)
 
 -- whatever the status: each moment of the call is covered, and the device is ready; it is ready with nothing where it holds nothing
@@ -96,7 +96,7 @@ pub record IsSafeCall (size : ℕ) (before after : Tale) : Type 0 where
   pub ready : IsReady after.base after.log members
   pub nothing : ¬ HasRegion (contents after.base after.log) → IsReady after.base after.log (None ∷ [])
 
--- after a run: that history has a sealed round for each request, the text is its text, and the device is ready with the state behind
+-- after a run: that history has a sealed round for each request, the text is its text, and the device is ready with the state after
 -- it alone
 pub record IsDurable (size : ℕ) (asks : List Ask) (text : List ℕ) (before after : Tale) : Type 0 where
   pub covered : IsCoveredCall size before after
@@ -106,7 +106,7 @@ pub record IsDurable (size : ℕ) (asks : List Ask) (text : List ℕ) (before af
   pub ready : IsReady after.base after.log (Some (state_after (fresh_map size) (told_history before after)) ∷ [])
 
 -- after a fault: it is empty, and the device may be found with no region; or it is the run of the first requests, and the device may be
--- found with the state behind it, or, in doubt, with the states before and behind one more
+-- found with the state after it, or, in doubt, with the states before and after one more
 pub record IsInterrupted (size : ℕ) (asks : List Ask) (before after : Tale) : Type 0 where
   pub members : List (Option Standing)
   pub found : AreFound size asks (told_history before after) members
@@ -170,7 +170,7 @@ pub record HasFault (call : Call) : Type 0 where
   pub kept : HadNoRegion call.before call.after
   pub interrupted : WhereReady call (IsInterrupted size asks)
 
--- what went out is a front of the text that the call had to say
+-- what went out is a prefix of the text that the call had to say
 abbrev pub SaysSome : Call → Output → Type 0
 SaysSome call output =
     SaysUsage call (WroteSome output) ⊎ (SaysRefusal call (WroteSome output) ⊎ (SaysTaken call (WroteSome output) ⊎ SaysRun call (WroteSome output)))

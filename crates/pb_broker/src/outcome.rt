@@ -41,7 +41,7 @@ pub fn write_outcomes<K: Sink>(
     send(sink, pending.as_slice())
 }
 
-// Puts a text behind what is pending, and lets that go first where there is no room.
+// Puts a text after what is pending, and lets that go first where there is no room.
 fn put<K: Sink>(
     sink: &mut K,
     pending: &mut ArrayVec<u8, PIECE>,

@@ -9,11 +9,11 @@ ghost use Rattle.pb_broker.specs.Top.{Reading, Call, Output, IsAnswered};
 use crate::outcome::write_outcomes;
 use crate::output::{send, write_line};
 use crate::requests::Requests;
-use crate::run::{Outcome, run};
+use crate::run::{RunResult, run};
 use crate::status::{
     DEVICE_FAULT, DONE, OUT_OF_MEMORY, READ_FAULT, REFUSED, TAKEN, USAGE, WRITE_FAULT,
 };
-use crate::stop::Stop;
+use crate::stop::RunError;
 use pb_io::{Gate, Sink, SinkFault, Source};
 use pb_pmem::Pmem;
 use std::alloc::Global;
@@ -32,7 +32,7 @@ pub struct Done<P: Drop> {
 ///
 /// The words are judged first, then the source is read, then its lines are judged, then the device is formatted and the script is run,
 /// and then the outcomes are written. All memory is taken before the device is written to. Each request is durable before the round of the
-/// next one is there: wherever a crash falls, the region is found as it was before a request or behind it, or isn't there yet.
+/// next one is there: wherever a crash falls, the region is found as it was before a request or after it, or isn't there yet.
 pub fn top<S: Source, K: Sink, P: Pmem + Send, G: Gate>(
     alloc: Global,
     words: &[String],
@@ -57,13 +57,13 @@ pub fn top<S: Source, K: Sink, P: Pmem + Send, G: Gate>(
         } in
         IsAnswered call output result.status }
 {
-    let Outcome { served, device } = run(alloc, words, source, device, gate);
+    let RunResult { served, device } = run(alloc, words, source, device, gate);
     let status = print(sink, &served);
     Done { status, device }
 }
 
 // Prints what a run came to, and gives its status.
-fn print<K: Sink>(sink: &mut K, outcome: &Result<Requests, Stop>) -> u8
+fn print<K: Sink>(sink: &mut K, outcome: &Result<Requests, RunError>) -> u8
     ensures { let output : Output = record {
       before = K.bytes sink.old;
       after = K.bytes sink.new;
@@ -82,7 +82,7 @@ fn print<K: Sink>(sink: &mut K, outcome: &Result<Requests, Stop>) -> u8
 }
 
 // Prints why a run stopped, where that is printed, and gives its status.
-fn print_stop<K: Sink>(sink: &mut K, stop: &Stop) -> u8
+fn print_stop<K: Sink>(sink: &mut K, stop: &RunError) -> u8
     ensures { let output : Output = record {
       before = K.bytes sink.old;
       after = K.bytes sink.new;
@@ -92,29 +92,29 @@ fn print_stop<K: Sink>(sink: &mut K, stop: &Stop) -> u8
         Prints output (Err stop.now) result }
 {
     match stop {
-        Stop::Memory => OUT_OF_MEMORY,
-        Stop::Usage => {
+        RunError::Memory => OUT_OF_MEMORY,
+        RunError::Usage => {
             let written = send(sink, b"usage\n");
             status_of(sink, written, USAGE)
         }
-        Stop::ReadFault => READ_FAULT,
-        Stop::Long => {
+        RunError::ReadFault => READ_FAULT,
+        RunError::Long => {
             let written = send(sink, b"long\n");
             status_of(sink, written, REFUSED)
         }
-        Stop::Line(line) => {
+        RunError::Line(line) => {
             let written = write_line(sink, *line);
             status_of(sink, written, REFUSED)
         }
-        Stop::DeviceFault => DEVICE_FAULT,
-        Stop::Taken => {
+        RunError::DeviceFault => DEVICE_FAULT,
+        RunError::Taken => {
             let written = send(sink, b"taken\n");
             status_of(sink, written, TAKEN)
         }
     }
 }
 
-// The status behind a text: the one that it goes with, where the whole text left.
+// The status after a text: the one that it goes with, where the whole text left.
 fn status_of<K: Sink>(sink: &mut K, written: Result<(), SinkFault>, whole: u8) -> u8
     ensures bytes { Keeps (K.bytes sink.old) (K.bytes sink.new) }
     ensures status { MatchResult written

@@ -1,11 +1,11 @@
-ghost use Rattle.std.specs.Prelude.{◌≡◌, ◌+◌, ◌/◌, length, drop};
+ghost use Rattle.std.specs.Prelude.{◌≡◌, ◌+◌, ◌/◌, ◌<◌, length, drop};
 ghost use Rattle.pb_pmem.specs.Lines.{line_at};
 ghost use Rattle.pb_object.specs.Object.{Registers};
-ghost use Rattle.pb_object.specs.ObjectLines.{StandFor};
-ghost use Rattle.pb_layout.specs.ClientLine.{client_line_of};
+ghost use Rattle.pb_object.specs.ObjectLines.{LinesRepresent};
 ghost use Rattle.pb_layout.specs.Record.{count_line_of};
+ghost use Rattle.pb_broker.specs.RegionLines.{AreZero, IsInFront};
 
-use pb_layout::{Header, client_line, count_line, record_len};
+use pb_layout::{Header, count_line, put_in_front, record_len};
 use pb_map::RegMap;
 use pb_object::{Ask, Kept, Kind, Object, Reply};
 use pb_pair::{Pair, Refused, Why};
@@ -13,14 +13,12 @@ use pb_pmem::{DeviceFault, Line, Pmem};
 use std::alloc::Global;
 use std::marker::Model;
 
-/// A region of one map and one client: the pair that keeps its records, and what the record in use stands for.
+/// A region of one map and one client: the pair that keeps its records, and what the record in use represents.
 ///
 /// A contract sees it as a `RegionView`.
 #[derive(Drop)]
 pub struct Region<P: Pmem> {
     pair: Pair<P>,
-    // The client's last request, and its reply.
-    kept: Kept,
     map: RegMap,
     // The lines of the next record.
     next: Vec<Line>,
@@ -33,7 +31,6 @@ impl<P: Pmem> Model for Region<P> {
 
     ghost view = { λ region. record {
       pair = region.pair;
-      kept = region.kept;
       registers = region.map;
       next = region.next.items;
     } };
@@ -44,7 +41,7 @@ impl<P: Pmem> Model for Region<P> {
 impl<P: Pmem> Region<P> {
     ghost use Rattle.std.specs.Prelude.{◌≡◌, ◌+◌, ◌<◌, ◌≤◌, IfOk, IfErr, OnErr};
     ghost use Rattle.pb_object.specs.declared.request.TheConstants.{LAST_NUMBER};
-    ghost use Rattle.pb_broker.specs.Region.{IsSound};
+    ghost use Rattle.pb_broker.specs.Region.{last_number, IsSound};
     ghost use Rattle.pb_broker.specs.Script.{IsRequest};
     ghost use Rattle.pb_broker.specs.Serving.{IsFresh, IsRefusal, IsServed, FailsToServe};
 
@@ -72,15 +69,9 @@ impl<P: Pmem> Region<P> {
                 why: Why::Memory,
             });
         };
-        let kept = Kept::default();
-        fill(0, &kept, &map, &mut next);
+        fill_first(&map, &mut next);
         match Pair::format(alloc, device, &head, &next, &[]) {
-            Ok(pair) => Ok(Region {
-                pair,
-                kept,
-                map,
-                next,
-            }),
+            Ok(pair) => Ok(Region { pair, map, next }),
             Err(refused) => Err(refused),
         }
     }
@@ -88,20 +79,21 @@ impl<P: Pmem> Region<P> {
     /// Serves a request in a round of its own, and stores it. After an error the region is only closed.
     pub fn serve(&mut self, ask: &Ask) -> Result<Reply, DeviceFault>
         requires sound { IsSound self.old }
-        requires request { IsRequest (self.old.kept.number + 1) ask.now }
-        requires few { self.old.kept.number < LAST_NUMBER }
+        requires request { IsRequest (last_number self.old + 1) ask.now }
+        requires few { last_number self.old < LAST_NUMBER }
         ensures ok { IfOk result (λ reply. IsServed ask.now reply self.old self.new) }
         ensures err { OnErr result (FailsToServe ask.now self.old self.new) }
     {
         let reply = self.map.apply(&ask.op);
-        self.kept = Kept {
+        let kept = Kept {
             number: ask.number,
             op: ask.op,
             reply,
         };
         fill(
             self.pair.round(0) + 1,
-            &self.kept,
+            self.pair.lines_of(0),
+            &kept,
             &self.map,
             &mut self.next,
         );
@@ -117,14 +109,25 @@ impl<P: Pmem> Region<P> {
     }
 }
 
-// Writes the lines of a record: its round, the request of its one client, and the map's registers.
-fn fill(round: u64, kept: &Kept, map: &RegMap, lines: &mut [Line])
-    requires { length lines.old ≡ 2 + (length map.now + 3) / 4 }
-    ensures first { line_at lines.new 0 ≡ count_line_of round }
-    ensures second { line_at lines.new 1 ≡ client_line_of kept.now }
-    ensures objects { StandFor (drop 2 lines.new) (Registers map.now) }
+// Writes the lines of the first record: round 0 and empty slots, which are there, and the map's registers.
+fn fill_first(map: &RegMap, lines: &mut [Line])
+    requires count { length lines.old ≡ 9 + (length map.now + 3) / 4 }
+    requires empty { AreZero lines.old 9 }
+    ensures empty { AreZero lines.new 9 }
+    ensures objects { LinesRepresent (drop 9 lines.new) (Registers map.now) }
 {
-    map.put_lines(&mut lines[2..]);
+    map.put_lines(&mut lines[9..]);
+}
+
+// Writes the lines of the next record: its round, the request in front of the slots of the record before, and the map's registers.
+fn fill(round: u64, before: &[Line], kept: &Kept, map: &RegMap, lines: &mut [Line])
+    requires before { 8 < length before.now }
+    requires count { length lines.old ≡ 9 + (length map.now + 3) / 4 }
+    ensures first { line_at lines.new 0 ≡ count_line_of round }
+    ensures slots { IsInFront before.now kept.now lines.new }
+    ensures objects { LinesRepresent (drop 9 lines.new) (Registers map.now) }
+{
+    put_in_front(before, 0, kept, lines);
     lines[0] = count_line(round);
-    lines[1] = client_line(kept);
+    map.put_lines(&mut lines[9..]);
 }

@@ -2,7 +2,7 @@
 ghost use Rattle.std.specs.Prelude.{◌≡◌, ◌≤◌, length, map, MatchResult};
 ghost use Rattle.std.specs.String.{string_bytes};
 ghost use Rattle.pb_object.specs.declared.request.TheConstants.{LAST_NUMBER};
-ghost use Rattle.pb_broker.specs.Run.{HasPrepared, StopsBefore, HasRun, StopsRun, Ran, RunStops, stop_for};
+ghost use Rattle.pb_broker.specs.Run.{HasPrepared, StopsBefore, HasRun, StopsRun, Ran, RunStops, IsFormatWhy, stop_for};
 ghost use Rattle.pb_broker.specs.Script.{AreRequests};
 ghost use Rattle.pb_broker.specs.Top.{Reading, Call};
 
@@ -11,7 +11,7 @@ use crate::requests::Requests;
 use crate::script::plain_asks;
 use crate::serve::serve_all;
 use crate::source::read_all;
-use crate::stop::Stop;
+use crate::stop::RunError;
 use crate::words::fresh_map_size;
 use pb_io::{Gate, Source};
 use pb_object::Reply;
@@ -21,9 +21,9 @@ use std::alloc::Global;
 
 /// What a run came to, and the device that it was given.
 #[derive(Drop)]
-pub struct Outcome<P: Drop> {
+pub struct RunResult<P: Drop> {
     /// The requests with their replies, or why there are none.
-    pub served: Result<Requests, Stop>,
+    pub served: Result<Requests, RunError>,
     pub device: P,
 }
 
@@ -34,7 +34,7 @@ pub fn run<S: Source, P: Pmem, G: Gate>(
     source: &mut S,
     device: P,
     gate: &G,
-) -> Outcome<P>
+) -> RunResult<P>
     ensures { let read : Reading = record {
       words = map string_bytes words.now;
       source = S.rest source.old;
@@ -47,7 +47,7 @@ pub fn run<S: Source, P: Pmem, G: Gate>(
 {
     match prepare(alloc, words, source) {
         Ok(script) => run_script(alloc, script, device, gate),
-        Err(stop) => Outcome {
+        Err(stop) => RunResult {
             served: Err(stop),
             device,
         },
@@ -55,7 +55,7 @@ pub fn run<S: Source, P: Pmem, G: Gate>(
 }
 
 /// Judges the words, reads the source and judges its lines. All memory of the replies is taken here.
-fn prepare<S: Source>(alloc: Global, words: &[String], source: &mut S) -> Result<Requests, Stop>
+fn prepare<S: Source>(alloc: Global, words: &[String], source: &mut S) -> Result<Requests, RunError>
     ensures { let read : Reading = record {
       words = map string_bytes words.now;
       source = S.rest source.old;
@@ -66,7 +66,7 @@ fn prepare<S: Source>(alloc: Global, words: &[String], source: &mut S) -> Result
         MatchResult result (HasPrepared read) (StopsBefore read) }
 {
     let Some(size) = fresh_map_size(words) else {
-        return Err(Stop::Usage);
+        return Err(RunError::Usage);
     };
     let bytes = read_all(alloc, source)?;
     let asks = plain_asks(alloc, &bytes)?;
@@ -79,7 +79,12 @@ fn prepare<S: Source>(alloc: Global, words: &[String], source: &mut S) -> Result
 }
 
 /// Formats the device and serves the script.
-fn run_script<P: Pmem, G: Gate>(alloc: Global, script: Requests, device: P, gate: &G) -> Outcome<P>
+fn run_script<P: Pmem, G: Gate>(
+    alloc: Global,
+    script: Requests,
+    device: P,
+    gate: &G,
+) -> RunResult<P>
     requires least { 1 ≤ script.size }
     requires most { script.size ≤ 1024 }
     requires requests { AreRequests 1 script.asks.items }
@@ -96,7 +101,7 @@ fn run_script<P: Pmem, G: Gate>(alloc: Global, script: Requests, device: P, gate
     let mut region = match Region::format(alloc, device, size) {
         Ok(region) => region,
         Err(refused) => {
-            return Outcome {
+            return RunResult {
                 served: Err(stop_of(&refused.why)),
                 device: refused.device,
             };
@@ -105,7 +110,7 @@ fn run_script<P: Pmem, G: Gate>(alloc: Global, script: Requests, device: P, gate
     let served = serve_all(&mut region, gate, &asks, &mut replies);
     let device = region.close();
     match served {
-        Ok(()) => Outcome {
+        Ok(()) => RunResult {
             served: Ok(Requests {
                 size,
                 asks,
@@ -113,22 +118,23 @@ fn run_script<P: Pmem, G: Gate>(alloc: Global, script: Requests, device: P, gate
             }),
             device,
         },
-        Err(_) => Outcome {
-            served: Err(Stop::DeviceFault),
+        Err(_) => RunResult {
+            served: Err(RunError::DeviceFault),
             device,
         },
     }
 }
 
 /// Why a run stops whose device wasn't formatted.
-fn stop_of(why: &Why) -> Stop
+fn stop_of(why: &Why) -> RunError
+    requires { IsFormatWhy why.now }
     ensures { result ≡ stop_for why.now }
 {
     match why {
-        Why::Memory => Stop::Memory,
-        Why::Device(_) => Stop::DeviceFault,
-        Why::Taken => Stop::Taken,
-        Why::NoRegion => Stop::Memory,
-        Why::Damaged { line: _ } => Stop::Memory,
+        Why::Memory => RunError::Memory,
+        Why::Device(_) => RunError::DeviceFault,
+        Why::Taken => RunError::Taken,
+        Why::NoRegion => unreachable!(),
+        Why::Damaged { line: _ } => unreachable!(),
     }
 }

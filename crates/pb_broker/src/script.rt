@@ -6,12 +6,12 @@ ghost use Rattle.pb_object.specs.Codes.{action_code};
 ghost use Rattle.pb_object.specs.Text.{op_text};
 ghost use Rattle.pb_broker.specs.Script.{IsMapOperation, IsRequest, IsScript, StopsAtLine, plain_line};
 
-use crate::stop::Stop;
+use crate::stop::RunError;
 use pb_object::{Action, Ask, Op, parse_number};
 use std::alloc::Global;
 
 /// The requests of a script in the plain form, whose line i has client 0 and number i.
-pub fn plain_asks(alloc: Global, bytes: &[u8]) -> Result<Vec<Ask>, Stop>
+pub fn plain_asks(alloc: Global, bytes: &[u8]) -> Result<Vec<Ask>, RunError>
     ensures { MatchResult result
         (λ asks. IsScript bytes.now asks.items × (length asks.items ≤ length bytes.now))
         (StopsAtLine bytes.now) }
@@ -21,7 +21,7 @@ pub fn plain_asks(alloc: Global, bytes: &[u8]) -> Result<Vec<Ask>, Stop>
     let mut number = 1;
     while !rest.is_empty() {
         let Some((ask, after)) = plain_ask(rest, number) else {
-            return Err(Stop::Line(number));
+            return Err(RunError::Line(number));
         };
         asks.push(ask)?;
         rest = after;
@@ -30,13 +30,13 @@ pub fn plain_asks(alloc: Global, bytes: &[u8]) -> Result<Vec<Ask>, Stop>
     Ok(asks)
 }
 
-// The request line of client 0 with this number; and what stands behind it.
+// The request line of client 0 with this number; and what stands after it.
 fn plain_ask(text: &[u8], number: u64) -> Option<(Ask, &[u8])>
     ensures { MatchOption result
         ((ask : Ask) (rest : List ℕ) → IsRequest number ask → text.now ≢ plain_line ask ++ rest)
         (λ read. IsRequest number read.0 × (text.now ≡ plain_line read.0 ++ read.1.now)) }
 {
-    let rest = behind(text, b"0 ")?;
+    let rest = after(text, b"0 ")?;
     let (found, rest) = plain_number(rest, b' ')?;
     if found != number {
         return None;
@@ -64,7 +64,7 @@ fn place_of(text: &[u8], end: u8) -> usize
     text.len()
 }
 
-// What stands before and behind the first of these bytes.
+// What stands before and after the first of these bytes.
 fn cut(text: &[u8], end: u8) -> Option<(&[u8], &[u8])>
     ensures { MatchOption result
         (position_or_len (λ byte. byte == end) text.now ≡ length text.now)
@@ -92,7 +92,7 @@ fn plain_value(digits: &[u8]) -> Option<u64>
     parse_number(digits)
 }
 
-// A number in the plain form and the byte behind it, which is no digit; and what stands behind them.
+// A number in the plain form and the byte after it, which is no digit; and what stands after them.
 fn plain_number(text: &[u8], end: u8) -> Option<(u64, &[u8])>
     requires { end < 48 }
     ensures { MatchOption result
@@ -104,16 +104,16 @@ fn plain_number(text: &[u8], end: u8) -> Option<(u64, &[u8])>
     Some((number, rest))
 }
 
-// What stands behind these first bytes.
-fn behind<'a>(text: &'a [u8], front: &[u8]) -> Option<&'a [u8]>
+// What stands after these first bytes.
+fn after<'a>(text: &'a [u8], prefix: &[u8]) -> Option<&'a [u8]>
     ensures { MatchOption result
-        ((rest : List ℕ) → text.now ≢ front.now ++ rest)
-        (λ rest. text.now ≡ front.now ++ rest.now) }
+        ((rest : List ℕ) → text.now ≢ prefix.now ++ rest)
+        (λ rest. text.now ≡ prefix.now ++ rest.now) }
 {
-    text.strip_prefix(front)
+    text.strip_prefix(prefix)
 }
 
-// Two numbers in the plain form, with a blank and a line feed behind them.
+// Two numbers in the plain form, with a blank and a line feed after them.
 fn two_numbers(text: &[u8]) -> Option<(u64, u64, &[u8])>
     ensures { MatchOption result
         ((a b : ℕ) (rest : List ℕ) → a < 2 ^ 64 → b < 2 ^ 64 → text.now ≢ decimal a ++ (32 ∷ (decimal b ++ (10 ∷ rest))))
@@ -124,7 +124,7 @@ fn two_numbers(text: &[u8]) -> Option<(u64, u64, &[u8])>
     Some((first, second, rest))
 }
 
-// Three numbers in the plain form, with blanks and a line feed behind them.
+// Three numbers in the plain form, with blanks and a line feed after them.
 fn three_numbers(text: &[u8]) -> Option<(u64, u64, u64, &[u8])>
     ensures { MatchOption result
         ((a b c : ℕ) (rest : List ℕ) → a < 2 ^ 64 → b < 2 ^ 64 → c < 2 ^ 64
@@ -137,21 +137,21 @@ fn three_numbers(text: &[u8]) -> Option<(u64, u64, u64, &[u8])>
     Some((first, second, third, rest))
 }
 
-// An operation of a map in its script form with a line feed behind it; and what stands behind them.
+// An operation of a map in its script form with a line feed after it; and what stands after them.
 fn plain_operation(text: &[u8]) -> Option<(Op, &[u8])>
     ensures { MatchOption result
         ((op : Op) (rest : List ℕ) → IsMapOperation op → text.now ≢ op_text op ++ (codes "\n" ++ rest))
         (λ read. IsMapOperation read.0 × (text.now ≡ op_text read.0 ++ (codes "\n" ++ read.1.now))) }
 {
-    if let Some(rest) = behind(text, b"get ") {
+    if let Some(rest) = after(text, b"get ") {
         let (key, rest) = plain_number(rest, b'\n')?;
         return Some((operation(Action::Get, key, 0, 0), rest));
     }
-    if let Some(rest) = behind(text, b"put ") {
+    if let Some(rest) = after(text, b"put ") {
         let (key, value, rest) = two_numbers(rest)?;
         return Some((operation(Action::Put, key, value, 0), rest));
     }
-    let rest = behind(text, b"cas ")?;
+    let rest = after(text, b"cas ")?;
     let (key, version, value, rest) = three_numbers(rest)?;
     Some((operation(Action::Cas, key, version, value), rest))
 }

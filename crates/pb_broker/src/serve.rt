@@ -2,7 +2,7 @@
 ghost use Rattle.std.specs.Prelude.{◌≡◌, ◌≤◌, OnOk, OnErr, length};
 ghost use Rattle.pb_object.specs.declared.request.TheConstants.{LAST_NUMBER};
 ghost use Rattle.pb_broker.specs.History.{history_with};
-ghost use Rattle.pb_broker.specs.Region.{IsSound};
+ghost use Rattle.pb_broker.specs.Region.{last_number, IsSound};
 ghost use Rattle.pb_broker.specs.Script.{AreRequests};
 ghost use Rattle.pb_broker.specs.Serving.{AreServed, FailsToServeAll};
 
@@ -19,7 +19,7 @@ pub fn serve_all<P: Pmem, G: Gate>(
     replies: &mut [Reply],
 ) -> Result<(), DeviceFault>
     requires sound { IsSound region.old }
-    requires fresh { region.old.kept.number ≡ 0 }
+    requires fresh { last_number region.old ≡ 0 }
     requires requests { AreRequests 1 asks.now }
     requires few { length asks.now ≤ LAST_NUMBER }
     requires places { length replies.old ≡ length asks.now }

@@ -3,7 +3,7 @@ ghost use Rattle.std.specs.Io.KnownBytes.{Consumes, IsAtEnd};
 ghost use Rattle.pb_pmem.specs.Count.{HasCause};
 ghost use Rattle.pb_broker.specs.Source.{ReadsAll, StopsReading};
 
-use crate::stop::Stop;
+use crate::stop::RunError;
 use pb_io::{Source, SourceFault};
 use std::alloc::{AllocError, Global};
 
@@ -11,21 +11,21 @@ use std::alloc::{AllocError, Global};
 pub const SOURCE_LIMIT: usize = 4194304;
 
 /// Reads a source to its end, or one byte past the limit.
-pub fn read_all<S: Source>(alloc: Global, source: &mut S) -> Result<Vec<u8>, Stop>
+pub fn read_all<S: Source>(alloc: Global, source: &mut S) -> Result<Vec<u8>, RunError>
     ensures { MatchResult result
         (λ bytes. ReadsAll (S.rest source.old) (S.rest source.new) bytes.items × (S.fault_count source.new ≡ S.fault_count source.old))
         (StopsReading (S.rest source.old) (S.fault_count source.old) (S.fault_count source.new)) }
 {
     let Ok(mut bytes) = zeros(alloc) else {
-        return Err(Stop::Memory);
+        return Err(RunError::Memory);
     };
     match fill(source, &mut bytes) {
         Ok(len) if len <= SOURCE_LIMIT => {
             bytes.truncate(len);
             Ok(bytes)
         }
-        Ok(_) => Err(Stop::Long),
-        Err(_) => Err(Stop::ReadFault),
+        Ok(_) => Err(RunError::Long),
+        Err(_) => Err(RunError::ReadFault),
     }
 }
 

@@ -1,11 +1,11 @@
 ghost use Rattle.std.specs.Prelude.{◌≡◌};
-ghost use Rattle.pb_broker.specs.declared.stop.Stop.TheVariants.{Memory};
+ghost use Rattle.pb_broker.specs.declared.stop.RunError.TheVariants.{Memory};
 
 use std::alloc::{AllocError, AllocFailed};
 
 /// Why a run ends before its outcomes.
 #[derive(Clone, Copy, Debug, PartialEq, Eq)]
-pub enum Stop {
+pub enum RunError {
     /// Memory ran out.
     Memory,
     /// The words are no command.
@@ -22,18 +22,18 @@ pub enum Stop {
     Taken,
 }
 
-impl From<AllocError> for Stop {
+impl From<AllocError> for RunError {
     ghost from_gives = { λ _ stop. stop ≡ Memory };
 
     fn from(_: AllocError) -> Self {
-        Stop::Memory
+        RunError::Memory
     }
 }
 
-impl<T: Drop> From<AllocFailed<T>> for Stop {
+impl<T: Drop> From<AllocFailed<T>> for RunError {
     ghost from_gives = { λ _ stop. stop ≡ Memory };
 
     fn from(_: AllocFailed<T>) -> Self {
-        Stop::Memory
+        RunError::Memory
     }
 }

@@ -1,7 +1,7 @@
 //! Crashes at each moment of a log.
 use crate::found::{Found, read_image};
 use crate::rounds::{ToldRound, told_rounds};
-use crate::worked::{STATES, device, front, worked};
+use crate::worked::{STATES, device, prefix, worked};
 use pb_image::Image;
 use pb_pmem::LogOp;
 use std::alloc::{AllocError, Global};
@@ -39,7 +39,7 @@ pub fn left_at(
     Ok(all)
 }
 
-/// What the images stand for that a crash at a moment leaves: at each cut, those of some picks.
+/// What the images represent that a crash at a moment leaves: at each cut, those of some picks.
 pub fn found_at(
     rt: &impl Abort,
     alloc: Global,
@@ -53,7 +53,7 @@ pub fn found_at(
     Ok(found)
 }
 
-/// What the images stand for that a crash behind all operations leaves.
+/// What the images represent that a crash after all operations leaves.
 pub fn found_at_the_end(
     rt: &impl Abort,
     alloc: Global,
@@ -77,7 +77,7 @@ fn is_front(rounds: &[ToldRound], moment: usize, kept: usize) -> bool {
     kept <= rounds.len()
 }
 
-// An image stands for the state behind a front of the rounds so far that lacks no sealed one.
+// An image represents the state after a prefix of the rounds so far, which includes every sealed one.
 fn stands_for_a_front(rounds: &[ToldRound], moment: usize, found: &Found) -> bool {
     for (kept, state) in STATES.iter().enumerate() {
         if found == state && is_front(rounds, moment, kept) {
@@ -122,14 +122,14 @@ fn each_front_of_the_rounds_is_left_by_some_crash(rt: HostRuntime) -> Result<(),
     let alloc = rt.alloc();
     let image = device(&rt, alloc, &worked(alloc)?)?;
     let rounds = told_rounds(&rt, alloc, image.log())?;
-    for moment in 0..35 {
+    for moment in 0..50 {
         let found = found_at(&rt, alloc, &image, moment)?;
-        // Only the sync of the formatting, operation 18, takes the images without a region away.
+        // Only the sync of the formatting, operation 25, takes the images without a region away.
         let nothing = found.contains(&Found::Nothing);
-        assert_eq!(rt; nothing, moment < 18, "moment {moment}");
+        assert_eq!(rt; nothing, moment < 25, "moment {moment}");
         for (kept, state) in STATES.iter().enumerate() {
-            // The magic is operation 16.
-            let left = moment >= 16 && is_front(&rounds, moment as usize, kept);
+            // The magic is operation 23.
+            let left = moment >= 23 && is_front(&rounds, moment as usize, kept);
             assert_eq!(rt; found.contains(state), left, "{moment}, {kept} rounds");
         }
     }
@@ -137,12 +137,12 @@ fn each_front_of_the_rounds_is_left_by_some_crash(rt: HostRuntime) -> Result<(),
 }
 
 #[test]
-fn the_device_holds_the_state_behind_all_rounds(rt: HostRuntime) -> Result<(), Fail> {
+fn the_device_holds_the_state_after_all_rounds(rt: HostRuntime) -> Result<(), Fail> {
     let alloc = rt.alloc();
-    for moment in 0..35 {
-        let log = front(alloc, moment)?;
+    for moment in 0..50 {
+        let log = prefix(alloc, moment)?;
         let image = device(&rt, alloc, &log)?;
-        let want = if moment < 16 {
+        let want = if moment < 23 {
             Some(Found::Nothing)
         } else {
             STATES.get(told_rounds(&rt, alloc, &log)?.len()).copied()

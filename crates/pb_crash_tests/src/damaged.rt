@@ -1,11 +1,9 @@
 //! Regions that are refused at an opening.
 use crate::pair::{open, tells};
-use crate::worked::{MAGIC, device, front, word};
+use crate::worked::{MAGIC, device, prefix, word};
 use pb_image::Image;
-use pb_layout::{Header, header_of};
-use pb_object::Kind;
 use pb_pair::{Pair, Why};
-use pb_pmem::{Line, LogOp};
+use pb_pmem::LogOp;
 use std::alloc::Global;
 use std::process::Abort;
 use std::test::Fail;
@@ -17,7 +15,7 @@ fn why(
     moment: usize,
     words: &[(u32, u32, u64)],
 ) -> Result<Option<Why>, Fail> {
-    let mut ops = front(alloc, moment)?;
+    let mut ops = prefix(alloc, moment)?;
     for &(line, place, to) in words {
         ops.push(word(line, place, to))?;
     }
@@ -46,48 +44,55 @@ fn judge(
 #[test]
 fn a_device_without_the_magic_has_no_region(rt: HostRuntime) -> Result<(), Fail> {
     let alloc = rt.alloc();
-    for moment in 0..16 {
+    for moment in 0..23 {
         assert_eq!(rt; why(&rt, alloc, moment, &[])?, Some(Why::NoRegion));
     }
-    assert_eq!(rt; why(&rt, alloc, 16, &[])?, None);
+    assert_eq!(rt; why(&rt, alloc, 23, &[])?, None);
     // However sound the rest is.
     let lost = [(0, 0, MAGIC - 1)];
-    assert_eq!(rt; why(&rt, alloc, 34, &lost)?, Some(Why::NoRegion));
+    assert_eq!(rt; why(&rt, alloc, 49, &lost)?, Some(Why::NoRegion));
     Ok(())
 }
 
 // Columns: the moment, the line, the place in it, the word, and the line that is refused.
-const REFUSED: [(usize, u32, u32, u64, u32); 27] = [
-    (34, 0, 1, 2, 0),
-    (34, 0, 2, 0, 0),
-    (34, 0, 2, 5, 0),
-    (34, 0, 3, 0, 0),
-    (34, 0, 3, 17, 0),
-    (34, 0, 4, 0, 0),
-    (34, 0, 4, 1025, 0),
-    (34, 0, 5, 4, 0),
-    (34, 0, 6, 4, 0),
-    (34, 0, 7, 1, 0),
-    (34, 1, 3, 1, 1),
-    (34, 1, 7, 1, 1),
-    (34, 2, 0, 1, 2),
-    (34, 2, 7, 1, 2),
+const REFUSED: [(usize, u32, u32, u64, u32); 33] = [
+    (49, 0, 1, 1, 0),
+    (49, 0, 1, 3, 0),
+    (49, 0, 2, 0, 0),
+    (49, 0, 2, 5, 0),
+    (49, 0, 3, 0, 0),
+    (49, 0, 3, 17, 0),
+    (49, 0, 4, 0, 0),
+    (49, 0, 4, 1025, 0),
+    // The words 5 and 6 name the records of version 1, and not those that are there.
+    (49, 0, 5, 10, 0),
+    (49, 0, 6, 9, 0),
+    (49, 0, 7, 1, 0),
+    (49, 1, 3, 1, 1),
+    (49, 1, 7, 1, 1),
+    (49, 2, 0, 1, 2),
+    (49, 2, 7, 1, 2),
     // The round counts on, and the record in use is the other one, or carries another number.
-    (34, 1, 0, 3, 6),
-    (34, 1, 0, 4, 3),
-    (34, 3, 0, 1, 3),
-    (34, 3, 1, 1, 3),
-    (34, 4, 1, 4, 4),
-    (34, 4, 4, 1, 4),
-    // The client has made fewer requests than there were rounds.
-    (34, 4, 0, 1, 3),
-    (26, 6, 0, 2, 6),
-    (26, 6, 7, 1, 6),
-    (26, 7, 5, 1, 7),
+    (49, 1, 0, 3, 19),
+    (49, 1, 0, 4, 9),
+    (49, 9, 0, 1, 9),
+    (49, 9, 1, 1, 9),
+    (49, 10, 1, 4, 10),
+    (49, 10, 4, 1, 10),
+    // The numbers of a client's slots fall.
+    (49, 10, 0, 1, 11),
+    (49, 11, 0, 2, 11),
+    (49, 11, 0, 3, 11),
+    (49, 17, 7, 1, 17),
+    (40, 19, 0, 2, 19),
+    (40, 19, 7, 1, 19),
+    (40, 20, 5, 1, 20),
     // A request of number 0 has no other word.
-    (26, 7, 0, 0, 7),
-    (18, 3, 0, 1, 3),
-    (18, 4, 7, 1, 4),
+    (40, 20, 0, 0, 20),
+    (40, 21, 1, 2, 21),
+    (25, 9, 0, 1, 9),
+    (25, 10, 7, 1, 10),
+    (25, 17, 1, 1, 17),
 ];
 
 #[test]
@@ -104,19 +109,31 @@ fn the_first_refused_line_is_named(rt: HostRuntime) -> Result<(), Fail> {
 #[test]
 fn the_first_check_that_fails_decides(rt: HostRuntime) -> Result<(), Fail> {
     let alloc = rt.alloc();
-    // From the last check to the first, one more word is wrong each time.
+    // The first two make more rounds than requests. Then, from the last check to the first, one more word is wrong each time.
     let words = [
-        (4, 0, 1),
-        (4, 1, 4),
-        (3, 1, 1),
+        (1, 0, 4),
+        (9, 0, 4),
+        (17, 1, 1),
+        (11, 0, 2),
+        (10, 1, 4),
+        (9, 1, 1),
         (2, 0, 1),
         (1, 3, 1),
         (0, 7, 1),
     ];
-    for (count, refused) in [(1usize, 3), (2, 4), (3, 3), (4, 2), (5, 1), (6, 0)] {
+    for (count, refused) in [
+        (2usize, 9),
+        (3, 17),
+        (4, 11),
+        (5, 10),
+        (6, 9),
+        (7, 2),
+        (8, 1),
+        (9, 0),
+    ] {
         assert!(rt; count <= words.len());
         let want = Some(Why::Damaged { line: refused });
-        let found = why(&rt, alloc, 34, words.split_at(count).0)?;
+        let found = why(&rt, alloc, 49, words.split_at(count).0)?;
         assert_eq!(rt; found, want, "{count} words");
     }
     Ok(())
@@ -125,33 +142,41 @@ fn the_first_check_that_fails_decides(rt: HostRuntime) -> Result<(), Fail> {
 #[test]
 fn what_is_not_in_use_is_not_looked_at(rt: HostRuntime) -> Result<(), Fail> {
     let alloc = rt.alloc();
-    // The object's line, the spare record, and a line past the region.
-    for words in [(5, 0, 1), (6, 0, 9), (7, 1, 9), (8, 7, 9), (9, 0, 9)] {
-        assert_eq!(rt; why(&rt, alloc, 34, &[words])?, None);
+    // The object's line, the lines of version 1's records, the spare record, and a line past the region.
+    for words in [
+        (18, 0, 1),
+        (3, 0, 9),
+        (8, 7, 9),
+        (19, 0, 9),
+        (20, 1, 9),
+        (28, 7, 9),
+        (29, 0, 9),
+    ] {
+        assert_eq!(rt; why(&rt, alloc, 49, &[words])?, None);
     }
     Ok(())
 }
 
 #[test]
-fn the_header_of_a_queue_is_refused(rt: HostRuntime) -> Result<(), Fail> {
+fn the_header_of_a_queue_asks_for_its_records(rt: HostRuntime) -> Result<(), Fail> {
     let alloc = rt.alloc();
-    let refused = Some(Why::Damaged { line: 0 });
-    assert_eq!(rt; why(&rt, alloc, 34, &[(0, 2, 4), (0, 6, 7)])?, refused);
-    // The header is valid.
-    let words = [MAGIC, 1, 4, 1, 4, 3, 7, 0];
-    let queue = Header {
-        kind: Kind::Queue,
-        clients: 1,
-        size: 4,
-    };
-    assert_eq!(rt; header_of(&Line { words }), Ok(queue));
+    // The first record of its puts begins at line 19 where the round number is even, else at line 29, and its takes' at line 39.
+    let queue = [(0, 2, 4), (0, 6, 7)];
+    assert_eq!(rt; why(&rt, alloc, 25, &queue)?, None);
+    for (moment, line) in [(40, 29), (49, 19)] {
+        let refused = Some(Why::Damaged { line });
+        assert_eq!(rt; why(&rt, alloc, moment, &queue)?, refused);
+    }
+    let words = [(0, 2, 4), (0, 6, 7), (2, 0, 1)];
+    let refused = Some(Why::Damaged { line: 49 });
+    assert_eq!(rt; why(&rt, alloc, 25, &words)?, refused);
     Ok(())
 }
 
-// A device with these bytes in front.
-fn of_bytes(alloc: Global, front: &[u8]) -> Result<Image, Fail> {
+// A device that begins with these bytes.
+fn of_bytes(alloc: Global, prefix: &[u8]) -> Result<Image, Fail> {
     let mut bytes = vec![in alloc; 0; 131072]?;
-    for (to, from) in bytes.iter_mut().zip(front) {
+    for (to, from) in bytes.iter_mut().zip(prefix) {
         *to = *from;
     }
     Ok(Image::from_bytes(alloc, &bytes, 4)?)
@@ -162,7 +187,7 @@ fn bytes_are_judged_as_the_lines_that_they_spell(rt: HostRuntime) -> Result<(), 
     let alloc = rt.alloc();
     let sound = of_bytes(
         alloc,
-        b"PBCOMB01\x01\0\0\0\0\0\0\0\x01\0\0\0\0\0\0\0\x01\0\0\0\0\0\0\0\x04\0\0\0\0\0\0\0\x03\0\0\0\0\0\0\0\x03\0\0\0\0\0\0\0",
+        b"PBCOMB01\x02\0\0\0\0\0\0\0\x01\0\0\0\0\0\0\0\x01\0\0\0\0\0\0\0\x04\0\0\0\0\0\0\0\x03\0\0\0\0\0\0\0\x03\0\0\0\0\0\0\0",
     )?;
     let pair = open(alloc, sound)?;
     assert!(rt; tells(&rt, &pair, 0));

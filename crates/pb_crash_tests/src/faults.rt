@@ -1,33 +1,21 @@
 //! Device calls that fail in a formatting, a store, an opening and its settling: each of them, in each way.
+use crate::attempts::{WAYS, kind, left};
 use crate::crash::{first_uncovered, found_at, found_at_the_end};
 use crate::found::Found;
-use crate::pair::{format, open, settled, settling, store_next, stored, tells};
+use crate::pair::{format, open, settle_ops, settled, store_next, stored, tells};
 use crate::rounds::told_rounds;
-use crate::worked::{STATES, device, front, worked};
+use crate::worked::{STATES, device, prefix, worked};
 use pb_image::{Call, Fail, How, Image};
 use pb_pair::{Pair, Refused, Why};
-use pb_pmem::{DeviceFault, Line, LogOp};
+use pb_pmem::{DeviceFault, LogOp};
 use std::alloc::{AllocError, Global};
 use std::process::Abort;
 use std::test::Fail as TestFail;
 
-const WAYS: [How; 4] = [How::Left, How::Done, How::Torn(9), How::Fenced];
-
 // What is told of the first fault.
 const FAULT: DeviceFault = DeviceFault { from: 0, to: 1 };
 
-// The kind of call that makes an operation.
-fn kind(op: &LogOp) -> Call {
-    match op {
-        LogOp::Whole { .. } => Call::Write,
-        LogOp::Word { .. } => Call::SetWord,
-        LogOp::Back { .. } => Call::WriteBack,
-        LogOp::Fence => Call::Fence,
-        LogOp::Sync => Call::Sync,
-    }
-}
-
-// The call fails that makes the operation behind the first `count` of these: its kind, and its number among those of its kind.
+// The call fails that makes the operation after the first `count` of these: its kind, and its number among those of its kind.
 fn fail_at(rt: &impl Abort, ops: &[LogOp], count: usize, how: How) -> Fail {
     assert!(rt; count < ops.len());
     let call = kind(&ops[count]);
@@ -47,19 +35,6 @@ fn failing(alloc: Global, fail: Fail) -> Result<Image, AllocError> {
     Ok(device)
 }
 
-// What a failing call of this operation leaves.
-fn left(op: LogOp, how: How) -> Option<LogOp> {
-    match (how, op) {
-        (How::Done, op) => Some(op),
-        (How::Torn(word), LogOp::Whole { line, .. }) => {
-            let to = Line { words: [word; 8] };
-            Some(LogOp::Whole { line, to })
-        }
-        (How::Fenced, LogOp::Sync) => Some(LogOp::Fence),
-        _ => None,
-    }
-}
-
 // The log is the first of these operations, and what the failing call of the next one leaves.
 fn is_cut_off(log: &[LogOp], ops: &[LogOp], count: usize, how: How) -> bool {
     if log.len() < count || ops.len() <= count {
@@ -71,7 +46,7 @@ fn is_cut_off(log: &[LogOp], ops: &[LogOp], count: usize, how: How) -> bool {
         && more.len() < 2
 }
 
-// From a moment on, each crash leaves the old state up to the word that switches, the new one behind the sync of that, and
+// From a moment on, each crash leaves the old state up to the word that switches, the new one after the sync of that, and
 // either between them.
 fn leaves(
     rt: &impl Abort,
@@ -97,7 +72,7 @@ fn leaves(
     Ok(true)
 }
 
-// The round that is found when the device works again. Once it is settled, each crash leaves the state behind that round.
+// The round that is found when the device works again. Once it is settled, each crash leaves the state after that round.
 fn found_again(
     rt: &impl Abort,
     alloc: Global,
@@ -139,15 +114,15 @@ fn a_formatting_whose_read_fails_writes_nothing(rt: HostRuntime) -> Result<(), T
     Ok(())
 }
 
-// What a formatting leaves, of whose operations the one behind the first `count` fails.
+// What a formatting leaves, of whose operations the one after the first `count` fails.
 fn format_fails(rt: &impl Abort, alloc: Global, count: usize, how: How) -> Result<(), TestFail> {
     let fail = fail_at(rt, &worked(alloc)?, count, how);
     let device = refused(rt, format(rt, alloc, failing(alloc, fail)?));
     assert!(rt; is_cut_off(device.log(), &worked(alloc)?, count, how));
-    // The magic is operation 16.
+    // The magic is operation 23.
     let states = [Found::Nothing, STATES[0]];
-    assert!(rt; leaves(rt, alloc, &device, 0, 16, states)?, "{count}");
-    let is_there = device.log().len() >= 16;
+    assert!(rt; leaves(rt, alloc, &device, 0, 23, states)?, "{count}");
+    let is_there = device.log().len() >= 23;
     let want = if is_there { Ok(0) } else { Err(Why::NoRegion) };
     assert_eq!(rt; found_again(rt, alloc, device)?, want, "{count}");
     Ok(())
@@ -157,7 +132,7 @@ fn format_fails(rt: &impl Abort, alloc: Global, count: usize, how: How) -> Resul
 fn a_formatting_that_fails_leaves_no_region_or_the_empty_one(
     rt: HostRuntime,
 ) -> Result<(), TestFail> {
-    for count in 0..18 {
+    for count in 0..25 {
         for how in WAYS {
             format_fails(&rt, rt.alloc(), count, how)?;
         }
@@ -165,7 +140,7 @@ fn a_formatting_that_fails_leaves_no_region_or_the_empty_one(
     Ok(())
 }
 
-// What the store behind so many others leaves, on a device that fails then.
+// What the store after so many others leaves, on a device that fails then.
 fn failed_store(rt: &impl Abort, alloc: Global, on: Image, stores: u64) -> Result<Image, TestFail> {
     let mut pair = stored(rt, alloc, on, stores)?;
     assert_eq!(rt; store_next(rt, &mut pair), Err(FAULT));
@@ -175,11 +150,12 @@ fn failed_store(rt: &impl Abort, alloc: Global, on: Image, stores: u64) -> Resul
     Ok(pair.close())
 }
 
-// The store behind so many others, which begins at a moment, and of whose operations the one behind the first `count` fails.
+// The store after so many others, which begins at a moment and whose index word is at another, and of whose operations the one after the
+// first `count` fails.
 fn store_fails(
     rt: &impl Abort,
     alloc: Global,
-    (stores, from): (u64, u32),
+    (stores, from, switch): (u64, u32, u32),
     count: usize,
     how: How,
 ) -> Result<(), TestFail> {
@@ -192,8 +168,6 @@ fn store_fails(
     let fail = fail_at(rt, &worked(alloc)?, count, how);
     let device = failed_store(rt, alloc, failing(alloc, fail)?, stores)?;
     assert!(rt; is_cut_off(device.log(), &worked(alloc)?, count, how));
-    // The index word is its operation 6.
-    let switch = from.saturating_add(6);
     assert!(rt;
         leaves(rt, alloc, &device, from, switch, states)?,
         "{count}"
@@ -209,15 +183,15 @@ fn store_fails(
 }
 
 #[test]
-fn a_store_that_fails_leaves_the_state_before_it_or_behind_it(
+fn a_store_that_fails_leaves_the_state_before_it_or_after_it(
     rt: HostRuntime,
 ) -> Result<(), TestFail> {
     for how in WAYS {
-        for count in 18..26 {
-            store_fails(&rt, rt.alloc(), (0, 18), count, how)?;
+        for count in 25..40 {
+            store_fails(&rt, rt.alloc(), (0, 25, 38), count, how)?;
         }
-        for count in 26..34 {
-            store_fails(&rt, rt.alloc(), (1, 26), count, how)?;
+        for count in 40..49 {
+            store_fails(&rt, rt.alloc(), (1, 40, 47), count, how)?;
         }
     }
     Ok(())
@@ -227,7 +201,7 @@ fn a_store_that_fails_leaves_the_state_before_it_or_behind_it(
 fn settling_seals_the_round_of_a_failed_store(rt: HostRuntime) -> Result<(), TestFail> {
     let alloc = rt.alloc();
     // The last sync fails.
-    let last = fail_at(&rt, &worked(alloc)?, 33, How::Left);
+    let last = fail_at(&rt, &worked(alloc)?, 48, How::Left);
     let mut pair = stored(&rt, alloc, failing(alloc, last)?, 1)?;
     assert_eq!(rt; store_next(&rt, &mut pair), Err(FAULT));
     let (round, device) = settled(&rt, alloc, pair.close())?;
@@ -235,8 +209,8 @@ fn settling_seals_the_round_of_a_failed_store(rt: HostRuntime) -> Result<(), Tes
     assert_eq!(rt; first_uncovered(&rt, alloc, &device)?, None);
     let rounds = told_rounds(&rt, alloc, device.log())?;
     assert_eq!(rt; rounds.len(), 2);
-    assert_eq!(rt; rounds[0].moment, Some(26));
-    assert_eq!(rt; rounds[1].moment, Some(37));
+    assert_eq!(rt; rounds[0].moment, Some(40));
+    assert_eq!(rt; rounds[1].moment, Some(52));
     Ok(())
 }
 
@@ -269,7 +243,7 @@ fn a_read_that_fails_leaves_the_region_unopened(rt: HostRuntime) -> Result<(), T
     Ok(())
 }
 
-// What settling leaves behind two rounds, where this call fails.
+// What settling leaves after two rounds, where this call fails.
 fn failed_settling(
     rt: &impl Abort,
     alloc: Global,
@@ -284,7 +258,7 @@ fn failed_settling(
     Ok(pair.close())
 }
 
-// Settling behind the first `count` operations of the worked log, of whose own the one behind the first `step` fails: round 2 is
+// Settling after the first `count` operations of the worked log, of whose own the one after the first `step` fails: round 2 is
 // found, and each crash leaves it or, until it is sealed, the old state.
 fn settle_fails(
     rt: &impl Abort,
@@ -294,14 +268,14 @@ fn settle_fails(
     step: usize,
     how: How,
 ) -> Result<(), TestFail> {
-    assert!(rt; count <= 34 && step < 4);
-    let mut ops = front(alloc, count as usize)?;
-    let fail = fail_at(rt, &settling(2), step, how);
+    assert!(rt; count <= 49 && step < 4);
+    let mut ops = prefix(alloc, count as usize)?;
+    let fail = fail_at(rt, &settle_ops(2), step, how);
     let device = failed_settling(rt, alloc, device(rt, alloc, &ops)?, fail)?;
-    ops.extend_from_slice(&settling(2))?;
+    ops.extend_from_slice(&settle_ops(2))?;
     assert!(rt; is_cut_off(device.log(), &ops, count as usize + step, how));
-    // The index word is operation 32.
-    assert!(rt; leaves(rt, alloc, &device, count, 32, [old, STATES[2]])?);
+    // The index word is operation 47.
+    assert!(rt; leaves(rt, alloc, &device, count, 47, [old, STATES[2]])?);
     assert_eq!(rt; found_again(rt, alloc, device)?, Ok(2));
     Ok(())
 }
@@ -309,7 +283,7 @@ fn settle_fails(
 #[test]
 fn settling_that_fails_leaves_what_was_found(rt: HostRuntime) -> Result<(), TestFail> {
     // At rest, and before the sync that seals round 2.
-    for (count, old) in [(34, STATES[2]), (33, STATES[1])] {
+    for (count, old) in [(49, STATES[2]), (48, STATES[1])] {
         for step in 0..4 {
             for how in WAYS {
                 settle_fails(&rt, rt.alloc(), count, old, step, how)?;

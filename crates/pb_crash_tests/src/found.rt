@@ -1,12 +1,14 @@
-//! What an image stands for.
+//! What an image represents.
+ghost use Rattle.std.specs.Prelude.{◌<◌};
+
 use pb_image::Image;
-use pb_layout::{Header, LayoutFault, client_of, count_line, header_of, record_line, record_of};
+use pb_layout::{Header, LayoutFault, count_line, header_of, kept_in_slot, record_line, record_of};
 use pb_map::RegMap;
 use pb_object::{Kept, Kind, Object};
 use pb_pmem::Line;
 use std::alloc::{AllocError, Global};
 
-/// What the lines of an image stand for.
+/// What the lines of an image represent.
 #[derive(Clone, Copy, Debug, PartialEq, Eq)]
 pub enum Found {
     /// There is no region.
@@ -17,8 +19,8 @@ pub enum Found {
     Region {
         /// The round of side 0.
         round: u64,
-        /// The client's last request with its reply, where it made one.
-        kept: Option<Kept>,
+        /// The client's last eight requests with their replies, the newest first.
+        kept: [Kept; 8],
         /// Each register's value and version.
         registers: [(u64, u64); 4],
     },
@@ -40,7 +42,7 @@ pub fn read_image(alloc: Global, image: &Image) -> Result<Found, AllocError> {
     }
 }
 
-// The checks behind that of the header.
+// The checks after that of the header.
 fn read_region(alloc: Global, image: &Image) -> Result<Found, AllocError> {
     let rounds = image.line(1);
     let round = rounds.words[0];
@@ -48,24 +50,17 @@ fn read_region(alloc: Global, image: &Image) -> Result<Found, AllocError> {
         return Ok(Found::Damaged);
     }
     let first = record_line(&HEAD, 0, (round % 2) as u32);
-    let record = [
-        image.line(first),
-        image.line(first + 1),
-        image.line(first + 2),
-    ];
+    let record = ten_lines(image, first);
     if record_of(&HEAD, 0, round, &record).is_err() {
         return Ok(Found::Damaged);
     }
-    let Some(kept) = client_of(Kind::Map, 0, &record[1]) else {
-        return Ok(Found::Damaged);
-    };
     let mut map = RegMap::fresh(alloc, 4)?;
-    if map.take_lines(&[record[2]]).is_err() {
+    if map.take_lines(&[record[9]]).is_err() {
         return Ok(Found::Damaged);
     }
     Ok(Found::Region {
         round,
-        kept: if kept.number == 0 { None } else { Some(kept) },
+        kept: kept_in(&record),
         registers: [
             map.register(0),
             map.register(1),
@@ -73,4 +68,24 @@ fn read_region(alloc: Global, image: &Image) -> Result<Found, AllocError> {
             map.register(3),
         ],
     })
+}
+
+// The lines from one on.
+fn ten_lines(image: &Image, first: u32) -> [Line; 10]
+    requires { first < 100 }
+{
+    let mut lines = [Line::default(); 10];
+    for place in 0..10 {
+        lines[place] = image.line(first + place as u32);
+    }
+    lines
+}
+
+// The requests in the slots of a record's one client.
+fn kept_in(record: &[Line; 10]) -> [Kept; 8] {
+    let mut kept = [Kept::default(); 8];
+    for slot in 0..8 {
+        kept[slot] = kept_in_slot(record, 0, slot as u32);
+    }
+    kept
 }

@@ -1,38 +1,18 @@
 //! The calls of a pair on the worked region: formatting, two stores, opening and settling.
-ghost use Rattle.std.specs.Prelude.{◌≡◌, IfOk};
+ghost use Rattle.std.specs.Prelude.{◌≡◌, ◌↔◌, ◌<◌, IfOk, IsTrue};
+ghost use Rattle.pb_object.specs.Standing.{side_count};
 ghost use Rattle.pb_pair.specs.declared.known.Known.TheVariants.{Opened};
 
 use crate::found::HEAD;
-use crate::worked::{MAGIC, back, device, front, word, worked};
+use crate::worked::{MAGIC, back, device, get_over_unknown, prefix, record, word};
 use pb_image::Image;
-use pb_layout::record_of;
+use pb_layout::{Header, record_len, record_of};
+use pb_object::Kind;
 use pb_pair::{Pair, Refused, Why};
 use pb_pmem::{DeviceFault, Line, LogOp};
 use std::alloc::Global;
 use std::process::Abort;
 use std::test::Fail;
-
-/// The record in use behind the formatting, behind the put, and behind the get.
-pub fn record(round: u64) -> [Line; 3] {
-    let words = match round {
-        0 => [[0; 8]; 3],
-        1 => [
-            [1, 0, 0, 0, 0, 0, 0, 0],
-            [1, 2, 3, 77, 0, 2, 0, 1],
-            [0, 0, 0, 0, 0, 0, 77, 1],
-        ],
-        _ => [
-            [2, 0, 0, 0, 0, 0, 0, 0],
-            [2, 1, 3, 0, 0, 1, 77, 1],
-            [0, 0, 0, 0, 0, 0, 77, 1],
-        ],
-    };
-    [
-        Line { words: words[0] },
-        Line { words: words[1] },
-        Line { words: words[2] },
-    ]
-}
 
 /// Formats a device as the worked region.
 pub fn format(
@@ -45,15 +25,41 @@ pub fn format(
     Pair::format(alloc, device, &HEAD, &first, &[])
 }
 
+// Whether an object has this side.
+fn has_side(head: &Header, side: u32) -> bool
+    ensures { IsTrue result ↔ (side < side_count head.now.kind) }
+{
+    match head.kind {
+        Kind::Map => side < 1,
+        Kind::Stack => side < 1,
+        Kind::Heap => side < 1,
+        Kind::Queue => side < 2,
+    }
+}
+
+/// Stores the next record of a side.
+pub fn store(
+    rt: &impl Abort,
+    pair: &mut Pair<Image>,
+    side: u32,
+    lines: &[Line],
+) -> Result<(), DeviceFault> {
+    assert!(rt; pair.sure());
+    let head = pair.header();
+    assert!(rt; has_side(&head, side));
+    let round = pair.round(side);
+    assert!(rt; round < 99);
+    assert!(rt; lines.len() == record_len(&head) as usize);
+    assert!(rt; record_of(&head, side, round + 1, lines).is_ok());
+    pair.store(side, lines)
+}
+
 /// Stores the next record of the worked region.
 pub fn store_next(rt: &impl Abort, pair: &mut Pair<Image>) -> Result<(), DeviceFault> {
-    assert!(rt; pair.sure());
     assert_eq!(rt; pair.header(), HEAD);
     let round = pair.round(0);
     assert!(rt; round < 2);
-    let lines = record(round + 1);
-    assert!(rt; record_of(&HEAD, 0, round + 1, &lines).is_ok());
-    pair.store(0, &lines)
+    store(rt, pair, 0, &record(round + 1))
 }
 
 /// A device is formatted as the worked region, and takes the first so many stores.
@@ -83,7 +89,7 @@ pub fn open(alloc: Global, device: Image) -> Result<Pair<Image>, Why>
     }
 }
 
-/// The pair tells the worked region behind so many rounds.
+/// The pair tells the worked region after so many rounds.
 pub fn tells(rt: &impl Abort, pair: &Pair<Image>, round: u64) -> bool {
     assert_eq!(rt; pair.header(), HEAD);
     pair.round(0) == round && pair.lines_of(0) == record(round).as_slice()
@@ -102,8 +108,8 @@ pub fn settled(rt: &impl Abort, alloc: Global, device: Image) -> Result<(u64, Im
     Ok((round, pair.close()))
 }
 
-/// The operations of settling behind so many rounds.
-pub fn settling(round: u64) -> [LogOp; 4] {
+/// The operations of settling after so many rounds.
+pub fn settle_ops(round: u64) -> [LogOp; 4] {
     [
         word(0, 0, MAGIC),
         word(1, 0, round),
@@ -113,7 +119,7 @@ pub fn settling(round: u64) -> [LogOp; 4] {
 }
 
 // Columns: the rounds, and the operations so far.
-const MOMENTS: [(u64, usize); 3] = [(0, 18), (1, 26), (2, 34)];
+const MOMENTS: [(u64, usize); 3] = [(0, 25), (1, 40), (2, 49)];
 
 #[test]
 fn formatting_and_stores_make_the_worked_operations(rt: HostRuntime) -> Result<(), Fail> {
@@ -123,7 +129,7 @@ fn formatting_and_stores_make_the_worked_operations(rt: HostRuntime) -> Result<(
         assert!(rt; pair.sure());
         assert!(rt; tells(&rt, &pair, round));
         assert_eq!(rt; pair.faults(), 0);
-        assert_eq!(rt; pair.close().log(), front(alloc, count)?.as_slice());
+        assert_eq!(rt; pair.close().log(), prefix(alloc, count)?.as_slice());
     }
     Ok(())
 }
@@ -132,29 +138,28 @@ fn formatting_and_stores_make_the_worked_operations(rt: HostRuntime) -> Result<(
 fn settling_makes_its_four_operations(rt: HostRuntime) -> Result<(), Fail> {
     let alloc = rt.alloc();
     for (round, count) in MOMENTS {
-        let mut ops = front(alloc, count)?;
+        let mut ops = prefix(alloc, count)?;
         let (found, device) = settled(&rt, alloc, device(&rt, alloc, &ops)?)?;
         assert_eq!(rt; found, round);
-        ops.extend_from_slice(&settling(round))?;
+        ops.extend_from_slice(&settle_ops(round))?;
         assert_eq!(rt; device.log(), ops.as_slice());
     }
     Ok(())
 }
 
 #[test]
-fn a_store_behind_settling_is_the_next_one(rt: HostRuntime) -> Result<(), Fail> {
+fn a_store_after_settling_is_the_next_one(rt: HostRuntime) -> Result<(), Fail> {
     let alloc = rt.alloc();
-    let mut ops = front(alloc, 26)?;
+    let mut ops = prefix(alloc, 40)?;
     let mut pair = open(alloc, device(&rt, alloc, &ops)?)?;
     assert_eq!(rt; pair.settle(), Ok(false));
     assert_eq!(rt; store_next(&rt, &mut pair), Ok(()));
     assert!(rt; pair.sure());
     assert!(rt; tells(&rt, &pair, 2));
-    ops.extend_from_slice(&settling(1))?;
-    for op in worked(alloc)?.iter().skip(26) {
-        ops.push(*op)?;
-    }
-    assert_eq!(rt; ops.len(), 38);
+    ops.extend_from_slice(&settle_ops(1))?;
+    // Opening doesn't read the spare record, so all its lines are written.
+    ops.extend_from_slice(&get_over_unknown(alloc)?)?;
+    assert_eq!(rt; ops.len(), 59);
     assert_eq!(rt; pair.close().log(), ops.as_slice());
     Ok(())
 }
@@ -162,11 +167,11 @@ fn a_store_behind_settling_is_the_next_one(rt: HostRuntime) -> Result<(), Fail> 
 #[test]
 fn a_device_with_a_region_is_not_formatted(rt: HostRuntime) -> Result<(), Fail> {
     let alloc = rt.alloc();
-    // The magic alone is operation 16.
-    for count in [16, 18, 26, 34usize] {
-        let ops = front(alloc, count)?;
+    // The magic alone is operation 23.
+    for count in [23, 25, 40, 49usize] {
+        let ops = prefix(alloc, count)?;
         match format(&rt, alloc, device(&rt, alloc, &ops)?) {
-            Ok(_) => panic!(rt; "formatted behind {count} operations"),
+            Ok(_) => panic!(rt; "formatted after {count} operations"),
             Err(refused) => {
                 assert_eq!(rt; refused.why, Why::Taken);
                 assert_eq!(rt; refused.device.log(), ops.as_slice());

@@ -1,7 +1,7 @@
-//! Readiness: what a region may be found with, also behind what may be done to it before it is opened.
+//! Readiness: what a region may be found with, also after what may be done to it before it is opened.
 use crate::crash::found_at_the_end;
 use crate::found::Found;
-use crate::worked::{MAGIC, STATES, back, device, front, word};
+use crate::worked::{MAGIC, STATES, back, device, prefix, word};
 use pb_pmem::LogOp;
 use std::alloc::Global;
 use std::process::Abort;
@@ -30,14 +30,14 @@ fn allowed(members: &[Found; 2]) -> [Option<LogOp>; 9] {
     ]
 }
 
-// What is found at the end behind the first operations of the worked log and more.
-fn found_behind(
+// What is found at the end after the first operations of the worked log and more.
+fn found_after(
     rt: &impl Abort,
     alloc: Global,
     moment: usize,
     more: [Option<LogOp>; 3],
 ) -> Result<Vec<Found>, Fail> {
-    let mut ops = front(alloc, moment)?;
+    let mut ops = prefix(alloc, moment)?;
     for op in more {
         if let Some(op) = op {
             ops.push(op)?;
@@ -47,7 +47,7 @@ fn found_behind(
     Ok(found_at_the_end(rt, alloc, &image)?)
 }
 
-// Each image stands for a member, behind the first operations of the worked log and more.
+// Each image represents a member, after the first operations of the worked log and more.
 fn finds_members(
     rt: &impl Abort,
     alloc: Global,
@@ -55,7 +55,7 @@ fn finds_members(
     members: &[Found; 2],
     more: [Option<LogOp>; 3],
 ) -> Result<bool, Fail> {
-    for found in found_behind(rt, alloc, moment, more)?.iter() {
+    for found in found_after(rt, alloc, moment, more)?.iter() {
         if !members.contains(found) {
             return Ok(false);
         }
@@ -63,7 +63,7 @@ fn finds_members(
     Ok(true)
 }
 
-// The same, behind each two of the operations that are allowed and then each of these.
+// The same, after each two of the operations that are allowed and then each of these.
 fn is_ready(
     rt: &impl Abort,
     alloc: Global,
@@ -87,7 +87,7 @@ fn is_ready(
 fn a_formatted_region_is_ready(rt: HostRuntime) -> Result<(), Fail> {
     let alloc = rt.alloc();
     let empty = [STATES[0], STATES[0]];
-    assert!(rt; is_ready(&rt, alloc, 18, &empty, &allowed(&empty))?);
+    assert!(rt; is_ready(&rt, alloc, 25, &empty, &allowed(&empty))?);
     Ok(())
 }
 
@@ -97,22 +97,22 @@ fn readiness_names_what_may_be_found(rt: HostRuntime) -> Result<(), Fail> {
     let [empty, put, get] = STATES;
     // Columns: the moment, the one or two members, and whether the device is ready for them.
     for (moment, first, second, ready) in [
-        (14, Found::Nothing, empty, false),
-        (15, Found::Nothing, empty, true),
-        (17, Found::Nothing, empty, true),
-        (17, empty, empty, false),
-        (22, empty, empty, true),
-        (22, empty, put, false),
-        (23, empty, put, true),
-        (25, empty, put, true),
-        (25, empty, empty, false),
-        (26, put, put, true),
-        (30, put, put, true),
-        (30, put, get, false),
-        (31, put, get, true),
-        (33, put, get, true),
-        (33, get, get, false),
-        (34, get, get, true),
+        (21, Found::Nothing, empty, false),
+        (22, Found::Nothing, empty, true),
+        (24, Found::Nothing, empty, true),
+        (24, empty, empty, false),
+        (36, empty, empty, true),
+        (36, empty, put, false),
+        (37, empty, put, true),
+        (39, empty, put, true),
+        (39, empty, empty, false),
+        (40, put, put, true),
+        (45, put, put, true),
+        (45, put, get, false),
+        (46, put, get, true),
+        (48, put, get, true),
+        (48, get, get, false),
+        (49, get, get, true),
     ] {
         let found = is_ready(&rt, alloc, moment, &[first, second], &[None])?;
         assert_eq!(rt; found, ready, "moment {moment}");
@@ -123,7 +123,7 @@ fn readiness_names_what_may_be_found(rt: HostRuntime) -> Result<(), Fail> {
 #[test]
 fn a_word_that_is_not_allowed_ends_readiness(rt: HostRuntime) -> Result<(), Fail> {
     let alloc = rt.alloc();
-    let found = found_behind(&rt, alloc, 18, [Some(word(1, 0, 1)), None, None])?;
+    let found = found_after(&rt, alloc, 25, [Some(word(1, 0, 1)), None, None])?;
     assert!(rt; found.contains(&Found::Damaged));
     Ok(())
 }

@@ -1,4 +1,4 @@
-//! Regions that are opened behind a crash, and again behind a crash while they are settled.
+//! Regions that are opened after a crash, and again after a crash while they are settled.
 use crate::crash::left_at;
 use crate::found::HEAD;
 use crate::pair::{settled, tells};
@@ -11,20 +11,20 @@ use std::test::Fail;
 
 const PICKS: [u64; 3] = [0, 1, 7];
 
-/// What an opening finds behind a crash of the worked log at a moment, with a cut and the pick 0, 1 or 7.
+/// What an opening finds after a crash of the worked log at a moment, with a cut and the pick 0, 1 or 7.
 ///
-/// - No region: at the moments 0 to 15; at 16 and 17 with cut 0 or pick 0.
-/// - Round 0: at 16 and 17 with cut 1 and pick 1 or 7; at 18 to 23; at 24 and 25 with cut 2 or pick 0.
-/// - Round 1: at 24 and 25 with cut 3 and pick 1 or 7; at 26 to 31; at 32 and 33 with cut 4 or pick 0.
-/// - Round 2: at 32 and 33 with cut 5 and pick 1 or 7; at 34.
+/// - No region: at the moments 0 to 22; at 23 and 24 with cut 0 or pick 0.
+/// - Round 0: at 23 and 24 with cut 1 and pick 1 or 7; at 25 to 37; at 38 and 39 with cut 2 or pick 0.
+/// - Round 1: at 38 and 39 with cut 3 and pick 1 or 7; at 40 to 46; at 47 and 48 with cut 4 or pick 0.
+/// - Round 2: at 47 and 48 with cut 5 and pick 1 or 7; at 49.
 fn stop(moment: u32, cut: u32, pick: u64) -> Result<u64, Why> {
     match moment {
-        0..=15 => Err(Why::NoRegion),
-        16 | 17 if cut == 0 || pick == 0 => Err(Why::NoRegion),
-        16..=23 => Ok(0),
-        24 | 25 if cut == 2 || pick == 0 => Ok(0),
-        24..=31 => Ok(1),
-        32 | 33 if cut == 4 || pick == 0 => Ok(1),
+        0..=22 => Err(Why::NoRegion),
+        23 | 24 if cut == 0 || pick == 0 => Err(Why::NoRegion),
+        23..=37 => Ok(0),
+        38 | 39 if cut == 2 || pick == 0 => Ok(0),
+        38..=46 => Ok(1),
+        47 | 48 if cut == 4 || pick == 0 => Ok(1),
         _ => Ok(2),
     }
 }
@@ -50,7 +50,7 @@ fn opened(rt: &impl Abort, alloc: Global, device: Image) -> Result<u64, Why> {
 fn each_image_is_opened_as_the_table_of_stops_says(rt: HostRuntime) -> Result<(), Fail> {
     let alloc = rt.alloc();
     let image = device(&rt, alloc, &worked(alloc)?)?;
-    for moment in 0..35 {
+    for moment in 0..50 {
         for left in left_at(&rt, alloc, &image, moment, &PICKS)? {
             let want = stop(moment, left.cut, left.pick);
             assert_eq!(rt; opened(&rt, alloc, left.device), want, "moment {moment}");
@@ -85,7 +85,7 @@ fn keeps(
 fn settling_that_a_crash_stops_changes_nothing(rt: HostRuntime) -> Result<(), Fail> {
     let alloc = rt.alloc();
     let image = device(&rt, alloc, &worked(alloc)?)?;
-    for moment in 0..35 {
+    for moment in 0..50 {
         for left in left_at(&rt, alloc, &image, moment, &PICKS)? {
             let want = stop(moment, left.cut, left.pick);
             assert!(rt; keeps(&rt, alloc, left.device, want)?, "moment {moment}");

@@ -1,5 +1,5 @@
 //! The history that a log of the worked region tells, by the places of its operations. The device began with zeros.
-use crate::worked::{GET, PUT, device, front};
+use crate::worked::{GET, PUT, device, prefix};
 use pb_image::Image;
 use pb_layout::client_of;
 use pb_object::{Kept, Kind};
@@ -13,7 +13,7 @@ use std::test::Fail;
 pub struct ToldRound {
     /// The number of operations up to and with its index word.
     pub word: usize,
-    /// The number of operations up to and with the first `Sync` behind a `Back` of the index line behind the word.
+    /// The number of operations up to and with the first `Sync` after a `Back` of the index line after the word.
     pub moment: Option<usize>,
     /// Its entry of the one client.
     pub entry: Option<Kept>,
@@ -34,10 +34,10 @@ impl ToldRound {
     }
 }
 
-// The entry that an index puts in force: the client's line in the record of that parity, where the number there isn't that of the
-// other record.
+// The entry that an index puts in force: the client's newest request in the record of that parity, where the number there isn't that of
+// the other record.
 fn entry(before: &Image, index: u64) -> Option<Kept> {
-    let lines = [before.line(4), before.line(7)];
+    let lines = [before.line(10), before.line(20)];
     if lines[0].words[0] == lines[1].words[0] {
         return None;
     }
@@ -52,8 +52,8 @@ fn gives(op: &LogOp) -> bool {
     }
 }
 
-// The first moment with a `Sync` behind a `Back` of the index line, both behind the first `word` operations.
-fn sealed_behind(log: &[LogOp], word: usize) -> Option<usize> {
+// The first moment with a `Sync` after a `Back` of the index line, both after the first `word` operations.
+fn sealed_after(log: &[LogOp], word: usize) -> Option<usize> {
     let mut given = false;
     for (place, op) in log.iter().enumerate() {
         if place >= word {
@@ -81,7 +81,7 @@ pub fn told_rounds(rt: &impl Abort, alloc: Global, log: &[LogOp]) -> Result<Vec<
                 let word = place.wrapping_add(1);
                 rounds.push(ToldRound {
                     word,
-                    moment: sealed_behind(log, word),
+                    moment: sealed_after(log, word),
                     entry: entry(&before, to),
                 })?;
             }
@@ -94,8 +94,8 @@ pub fn told_rounds(rt: &impl Abort, alloc: Global, log: &[LogOp]) -> Result<Vec<
 fn the_worked_log_tells_the_put_and_the_get(rt: HostRuntime) -> Result<(), Fail> {
     let alloc = rt.alloc();
     // The operation that is the index word, the moment at which it is sealed, and the entry.
-    let all = [(24usize, 26usize, PUT), (32, 34, GET)];
-    for moment in 0..35 {
+    let all = [(38usize, 40usize, PUT), (47, 49, GET)];
+    for moment in 0..50 {
         let mut want = Vec::new(alloc);
         for (word, sealed, entry) in all {
             if word <= moment {
@@ -106,7 +106,7 @@ fn the_worked_log_tells_the_put_and_the_get(rt: HostRuntime) -> Result<(), Fail>
                 })?;
             }
         }
-        let rounds = told_rounds(&rt, alloc, &front(alloc, moment)?)?;
+        let rounds = told_rounds(&rt, alloc, &prefix(alloc, moment)?)?;
         assert_eq!(rt; rounds.as_slice(), want.as_slice(), "moment {moment}");
     }
     Ok(())

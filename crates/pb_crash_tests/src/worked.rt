@@ -42,26 +42,66 @@ pub const GET: Kept = Kept {
     },
 };
 
-/// What the region stands for behind the formatting, behind the put, and behind the get.
+/// What an empty slot holds.
+pub const NONE: Kept = Kept {
+    number: 0,
+    op: Op {
+        code: 0,
+        a: 0,
+        b: 0,
+        c: 0,
+    },
+    reply: Reply {
+        code: 0,
+        value: 0,
+        extra: 0,
+    },
+};
+
+/// What the region represents after the formatting, after the put, and after the get.
 pub const STATES: [Found; 3] = [
     Found::Region {
         round: 0,
-        kept: None,
+        kept: [NONE, NONE, NONE, NONE, NONE, NONE, NONE, NONE],
         registers: [(0, 0), (0, 0), (0, 0), (0, 0)],
     },
     Found::Region {
         round: 1,
-        kept: Some(PUT),
+        kept: [PUT, NONE, NONE, NONE, NONE, NONE, NONE, NONE],
         registers: [(0, 0), (0, 0), (0, 0), (77, 1)],
     },
     Found::Region {
         round: 2,
-        kept: Some(GET),
+        kept: [GET, PUT, NONE, NONE, NONE, NONE, NONE, NONE],
         registers: [(0, 0), (0, 0), (0, 0), (77, 1)],
     },
 ];
 
-fn whole(line: u32, words: [u64; 8]) -> LogOp {
+// The lines of the put, of the get, and of the register after them.
+const PUT_LINE: [u64; 8] = [1, 2, 3, 77, 0, 2, 0, 1];
+
+const GET_LINE: [u64; 8] = [2, 1, 3, 0, 0, 1, 77, 1];
+
+const REGISTERS: [u64; 8] = [0, 0, 0, 0, 0, 0, 77, 1];
+
+/// The record in use after the formatting, after the put, and after the get.
+pub fn record(round: u64) -> [Line; 10] {
+    let zero = Line::default();
+    let first = Line {
+        words: [round, 0, 0, 0, 0, 0, 0, 0],
+    };
+    let put = Line { words: PUT_LINE };
+    let get = Line { words: GET_LINE };
+    let last = Line { words: REGISTERS };
+    match round {
+        0 => [zero; 10],
+        1 => [first, put, zero, zero, zero, zero, zero, zero, zero, last],
+        _ => [first, get, put, zero, zero, zero, zero, zero, zero, last],
+    }
+}
+
+/// A write of a whole line.
+pub fn whole(line: u32, words: [u64; 8]) -> LogOp {
     LogOp::Whole {
         line,
         to: Line { words },
@@ -78,15 +118,26 @@ pub fn back(first: u32, count: u32) -> LogOp {
     LogOp::Back { first, count }
 }
 
-/// The 34 operations, in their order.
+fn zeros(line: u32) -> LogOp {
+    whole(line, [0; 8])
+}
+
+/// The 49 operations, in their order.
 pub fn worked(alloc: Global) -> Result<Vec<LogOp>, AllocError> {
     let ops = [
-        whole(3, [0; 8]),
-        whole(4, [0; 8]),
-        whole(5, [0; 8]),
-        whole(1, [0; 8]),
-        whole(2, [0; 8]),
-        word(0, 1, 1),
+        zeros(9),
+        zeros(10),
+        zeros(11),
+        zeros(12),
+        zeros(13),
+        zeros(14),
+        zeros(15),
+        zeros(16),
+        zeros(17),
+        zeros(18),
+        zeros(1),
+        zeros(2),
+        word(0, 1, 2),
         word(0, 2, 1),
         word(0, 3, 1),
         word(0, 4, 4),
@@ -94,23 +145,31 @@ pub fn worked(alloc: Global) -> Result<Vec<LogOp>, AllocError> {
         word(0, 6, 3),
         word(0, 7, 0),
         back(0, 3),
-        back(3, 3),
+        back(9, 10),
         LogOp::Fence,
         word(0, 0, MAGIC),
         back(0, 1),
         LogOp::Sync,
-        whole(6, [1, 0, 0, 0, 0, 0, 0, 0]),
-        whole(7, [1, 2, 3, 77, 0, 2, 0, 1]),
-        whole(8, [0, 0, 0, 0, 0, 0, 77, 1]),
-        back(6, 3),
+        whole(19, [1, 0, 0, 0, 0, 0, 0, 0]),
+        whole(20, PUT_LINE),
+        zeros(21),
+        zeros(22),
+        zeros(23),
+        zeros(24),
+        zeros(25),
+        zeros(26),
+        zeros(27),
+        whole(28, REGISTERS),
+        back(19, 10),
         LogOp::Fence,
         word(1, 0, 1),
         back(1, 1),
         LogOp::Sync,
-        whole(3, [2, 0, 0, 0, 0, 0, 0, 0]),
-        whole(4, [2, 1, 3, 0, 0, 1, 77, 1]),
-        whole(5, [0, 0, 0, 0, 0, 0, 77, 1]),
-        back(3, 3),
+        whole(9, [2, 0, 0, 0, 0, 0, 0, 0]),
+        whole(10, GET_LINE),
+        whole(11, PUT_LINE),
+        whole(18, REGISTERS),
+        back(9, 10),
         LogOp::Fence,
         word(1, 0, 2),
         back(1, 1),
@@ -119,8 +178,30 @@ pub fn worked(alloc: Global) -> Result<Vec<LogOp>, AllocError> {
     ops.to_vec(alloc)
 }
 
-/// The first of the 34 operations.
-pub fn front(alloc: Global, count: usize) -> Result<Vec<LogOp>, AllocError> {
+/// The operations of the get's store where nothing is known of the spare record: all its lines are written.
+pub fn get_over_unknown(alloc: Global) -> Result<Vec<LogOp>, AllocError> {
+    let ops = [
+        whole(9, [2, 0, 0, 0, 0, 0, 0, 0]),
+        whole(10, GET_LINE),
+        whole(11, PUT_LINE),
+        zeros(12),
+        zeros(13),
+        zeros(14),
+        zeros(15),
+        zeros(16),
+        zeros(17),
+        whole(18, REGISTERS),
+        back(9, 10),
+        LogOp::Fence,
+        word(1, 0, 2),
+        back(1, 1),
+        LogOp::Sync,
+    ];
+    ops.to_vec(alloc)
+}
+
+/// The first of the 49 operations.
+pub fn prefix(alloc: Global, count: usize) -> Result<Vec<LogOp>, AllocError> {
     let mut ops = worked(alloc)?;
     ops.truncate(count);
     Ok(ops)

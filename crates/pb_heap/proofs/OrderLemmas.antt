@@ -9,7 +9,7 @@ use Rattle.pb_object.specs.Heap.{insert_rising, rising_of, after_insert}
 use Rattle.std.proofs.lemmas.Bool.Decides.{nat_tests}
 use Rattle.pb_object.proofs.RisingLemmas.{length-rising_of, rising_of-rising, rises_from_IsNonDecreasing, IsLeast-from_get_or, IsLeast-rising_of, insert_rising-least, same_from_insert_rising, rising_of-IsPermutation}
 
--- ---- by places: f is the list before the exchange, g behind it
+-- ---- by places: f is the list before the exchange, g after it
 
 up-others : (f g : ℕ → ℕ) (n hole p : ℕ) → 0 < hole → f hole < f (parent_of hole) → g (parent_of hole) ≡ f hole → g hole ≡ f (parent_of hole) → ((k : ℕ) → k ≢ parent_of hole → k ≢ hole → g k ≡ f k) → ((k : ℕ) → 0 < k → k < n → k ≢ hole → f (parent_of k) ≤ f k) → ((k : ℕ) → 0 < k → k < n → parent_of k ≡ hole → 0 < hole → f (parent_of hole) ≤ f k) → 0 < p → p < n → p ≢ parent_of hole → g (parent_of p) ≤ g p
 up-others f g n hole p some less top low same others children some_p within_p other_p =

@@ -1,7 +1,5 @@
 -- The places of a heap, of which the first are taken.
-use Rattle.std.specs.Prelude.{ℕ, ◌<◌, ◌≤◌, List, length, take}
-use Rattle.pb_pmem.specs.declared.line.Line.{Line}
-use Rattle.pb_object.specs.ItemLines.{IsItemLine, IsHeapPlace, HoldItems}
+use Rattle.std.specs.Prelude.{ℕ, ◌≤◌, List, length, take}
 use Rattle.pb_heap.specs.Order.{IsHeapOrdered}
 
 -- between 1 and 1024 places, of which so many are taken, in heap order
@@ -9,11 +7,4 @@ pub record ArePlaces (places : List ℕ) (len : ℕ) : Type 0 where
   pub least : 1 ≤ length places
   pub most : length places ≤ 1024
   pub within : len ≤ length places
-  pub ordered : IsHeapOrdered (take len places)
-
--- what is read from lines that the format allows: so many of the places are taken, in heap order, and hold the items
-pub record TakesItems (places : List ℕ) (len : ℕ) (lines : List Line) : Type 0 where
-  pub allowed : (line : ℕ) → line < length lines → IsItemLine IsHeapPlace (length places) lines line
-  pub within : len ≤ length places
-  pub held : HoldItems lines (take len places)
   pub ordered : IsHeapOrdered (take len places)

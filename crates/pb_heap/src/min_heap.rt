@@ -4,7 +4,7 @@ ghost use Rattle.pb_object.specs.Heap.{after_insert, insert_reply};
 ghost use Rattle.pb_object.specs.Object.{Rising};
 ghost use Rattle.pb_object.specs.Stack.{item_reply};
 
-use crate::lines::take_items;
+use crate::lines::take_ordered;
 use crate::order::{add_item, least_item, remove_least};
 use pb_object::{Action, Answer, Kind, NotAState, Object, Op, Reply, put_items};
 use pb_pmem::Line;
@@ -126,7 +126,7 @@ impl Object for MinHeap {
     }
 
     fn take_lines(&mut self, from: &[Line]) -> Result<(), NotAState> {
-        self.len = take_items(&mut self.places, from)?;
+        self.len = take_ordered(&mut self.places, from)?;
         Ok(())
     }
 

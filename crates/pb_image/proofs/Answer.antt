@@ -27,7 +27,7 @@ Rose-raised n small = go (ltb n last_count) refl
     go true e = inl (grind (arith, nat_tests))
     go false e = inr (grind (arith, nat_tests), grind (arith, nat_tests))
 
--- the device behind a call that fails in this way, or doesn't
+-- the device after a call that fails in this way, or doesn't
 abbrev step : Option How → Call → LogOp → ImageView → ImageView
 step how call op image = record image {
   log = image.log ++ option_to_list (added_by op how);

@@ -7,11 +7,11 @@ use Rattle.pb_pmem.specs.declared.line.Line.{Line}
 use Rattle.pb_pmem.specs.declared.log.LogOp.{LogOp}
 use Rattle.pb_pmem.specs.declared.log.LogOp.TheVariants.{Whole, Word, Back, Fence, Sync}
 use Rattle.pb_pmem.specs.Contents.{applied, contents}
-use Rattle.pb_pmem.specs.Crash.{is_mark, unbacked_writes, through_mark, behind_mark, until_mark, settled_writes, loose_writes, settled_content, MayWrite, IsLeftAt, IsAtRest}
+use Rattle.pb_pmem.specs.Crash.{is_mark, unbacked_writes, through_mark, after_mark, until_mark, settled_writes, loose_writes, settled_content, MayWrite, IsCrashImageAtCut, IsAtRest}
 use Rattle.pb_pmem.specs.Lines.{word_of}
 use Rattle.pb_pmem.proofs.Lines.{contents-none, contents-first, length-contents}
-use Rattle.pb_pmem.proofs.Rest.{IsAtRest-none}
-use Rattle.pb_pmem.proofs.Some.{Any-here, Any-there, Any-cases}
+use Rattle.pb_pmem.proofs.CrashLaws.{IsAtRest-none}
+use Rattle.pb_pmem.proofs.AnyLemmas.{Any-here, Any-there, Any-cases}
 use Rattle.pb_pmem.proofs.Words.{word_of-applied}
 use Rattle.pb_image.specs.Bytes.{lines_of_bytes}
 use Rattle.pb_image.specs.Fails.{filled}
@@ -37,13 +37,13 @@ within-through_mark (suc cut) (op ∷ log) h =
     let p = and_parts (is_within op) (list_all is_within log) h in
     rw p.0 (within-through_mark (cond (is_mark op) cut (suc cut)) log p.1)
 
-pub within-behind_mark : (cut : ℕ) (log : List LogOp) → IsTrue (list_all is_within log) → IsTrue (list_all is_within (behind_mark cut log))
-unfolding behind_mark
-within-behind_mark zero [] h = refl
-within-behind_mark (suc cut) [] h = refl
-within-behind_mark zero (op ∷ log) h = h
-within-behind_mark (suc cut) (op ∷ log) h =
-    within-behind_mark (cond (is_mark op) cut (suc cut)) log (and_parts (is_within op) (list_all is_within log) h).1
+pub within-after_mark : (cut : ℕ) (log : List LogOp) → IsTrue (list_all is_within log) → IsTrue (list_all is_within (after_mark cut log))
+unfolding after_mark
+within-after_mark zero [] h = refl
+within-after_mark (suc cut) [] h = refl
+within-after_mark zero (op ∷ log) h = h
+within-after_mark (suc cut) (op ∷ log) h =
+    within-after_mark (cond (is_mark op) cut (suc cut)) log (and_parts (is_within op) (list_all is_within log) h).1
 
 pub within-until_mark : (log : List LogOp) → IsTrue (list_all is_within log) → IsTrue (list_all is_within (until_mark log))
 unfolding until_mark
@@ -61,7 +61,7 @@ within-settled cut log h = within-backed (through_mark cut log) (within-through_
 
 pub within-loose : (cut : ℕ) (log : List LogOp) → IsTrue (list_all is_within log) → IsTrue (list_all is_within (loose_writes cut log))
 within-loose cut log h =
-    rw (list_all-append is_within (unbacked_writes (through_mark cut log)) (until_mark (behind_mark cut log)), within-unbacked (through_mark cut log) (within-through_mark cut log h)) (within-until_mark (behind_mark cut log) (within-behind_mark cut log h))
+    rw (list_all-append is_within (unbacked_writes (through_mark cut log)) (until_mark (after_mark cut log)), within-unbacked (through_mark cut log) (within-through_mark cut log h)) (within-until_mark (after_mark cut log) (within-after_mark cut log h))
 
 -- The image of a pick
 
@@ -115,8 +115,8 @@ word_of-with_loose pick loose lines line word = go (eqb pick 0) (eqb pick 1)
         flood (word_of-contents (contents lines loose) (flooded pick loose) line word) (word_of-contents lines loose line word)
 
 -- a crash may leave it
-pub IsLeftAt-picked : (base : List Line) (log : List LogOp) (cut pick : ℕ) → IsLeftAt base log cut (picked base log cut pick)
-IsLeftAt-picked base log cut pick =
+pub IsCrashImageAtCut-picked : (base : List Line) (log : List LogOp) (cut pick : ℕ) → IsCrashImageAtCut base log cut (picked base log cut pick)
+IsCrashImageAtCut-picked base log cut pick =
     record {
       lines = length-picked base log cut pick;
       words = λ line word. word_of-with_loose pick (loose_writes cut log) (settled_content base cut log) line word;

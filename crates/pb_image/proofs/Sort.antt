@@ -157,7 +157,7 @@ pub at_before : (log : List LogOp) (i : ℕ) (op : LogOp) → 0 < i → i ≤ le
 at_before log i op some inside e =
     at_place log (i - 1) op (omega arith) e ∙ ap (λ n. op ∷ drop n log) (omega arith)
 
--- what stands up to a mark is a front of the log, and what stands behind it the rest
+-- what stands up to a mark is a prefix of the log, and what stands after it the rest
 pub length-with_loose : (pick : ℕ) (loose : List LogOp) (lines : List Line) → length (with_loose pick loose lines) ≡ length lines
 length-with_loose pick loose lines = go (eqb pick 0) (eqb pick 1)
   where

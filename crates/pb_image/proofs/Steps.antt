@@ -2,8 +2,8 @@
 use Rattle.std.proofs.Common.{◌≡◌, ℕ, zero, suc, ◌+◌, ◌-◌, ◌<◌, ◌≤◌, Bool, true, false, cond, List, [], ◌∷◌, ◌++◌, length, get_or, take, drop, ap, sym, refl, ◌∙◌, arith}
 use Rattle.std.proofs.lemmas.List.{append-nil, append_assoc, drop_more, take_more, drop_all, take_all}
 use Rattle.pb_pmem.specs.declared.log.LogOp.{LogOp}
-use Rattle.pb_pmem.specs.Crash.{is_mark, through_mark, behind_mark, until_mark}
-use Rattle.pb_pmem.proofs.Marks.{through_mark-nil, through_mark-first, behind_mark-nil, behind_mark-first, until_mark-first, until_mark-nil}
+use Rattle.pb_pmem.specs.Crash.{is_mark, through_mark, after_mark, until_mark}
+use Rattle.pb_pmem.proofs.Marks.{through_mark-nil, through_mark-first, after_mark-nil, after_mark-first, until_mark-first, until_mark-nil}
 
 -- the operation at a place, and what stands from there on
 pub at_place : (log : List LogOp) (i : ℕ) (op : LogOp) → i < length log → op ≡ get_or log i op → drop i log ≡ op ∷ drop (i + 1) log
@@ -25,10 +25,10 @@ through_step zero log i op some inside e = absurd (omega arith)
 through_step (suc left) log i op some inside e =
     rw (at_place log i op inside e, through_mark-first, left_of (is_mark op) left) (regroup log i op _ inside e)
 
-pub behind_step : (left : ℕ) (log : List LogOp) (i : ℕ) (op : LogOp) → 0 < left → i < length log → op ≡ get_or log i op → behind_mark left (drop i log) ≡ behind_mark (left - cond (is_mark op) 1 0) (drop (i + 1) log)
-behind_step zero log i op some inside e = absurd (omega arith)
-behind_step (suc left) log i op some inside e =
-    rw (at_place log i op inside e, behind_mark-first, left_of (is_mark op) left) refl
+pub after_step : (left : ℕ) (log : List LogOp) (i : ℕ) (op : LogOp) → 0 < left → i < length log → op ≡ get_or log i op → after_mark left (drop i log) ≡ after_mark (left - cond (is_mark op) 1 0) (drop (i + 1) log)
+after_step zero log i op some inside e = absurd (omega arith)
+after_step (suc left) log i op some inside e =
+    rw (at_place log i op inside e, after_mark-first, left_of (is_mark op) left) refl
 
 pub until_step : (log : List LogOp) (i : ℕ) (op : LogOp) → is_mark op ≡ false → i < length log → op ≡ get_or log i op → take i log ++ until_mark (drop i log) ≡ take (i + 1) log ++ until_mark (drop (i + 1) log)
 until_step log i op other inside e =
@@ -50,9 +50,9 @@ pub through_all : (left : ℕ) (log : List LogOp) (i : ℕ) → length log ≤ i
 through_all left log i past =
     all_taken log _ i past (ap (through_mark left) (drop_all i log past) ∙ through_mark-nil left)
 
-pub behind_all : (left : ℕ) (log : List LogOp) (i : ℕ) → length log ≤ i → behind_mark left (drop i log) ≡ drop (length log) log
-behind_all left log i past =
-    ap (behind_mark left) (drop_all i log past) ∙ (behind_mark-nil left ∙ sym (drop_all (length log) log (omega arith)))
+pub after_all : (left : ℕ) (log : List LogOp) (i : ℕ) → length log ≤ i → after_mark left (drop i log) ≡ drop (length log) log
+after_all left log i past =
+    ap (after_mark left) (drop_all i log past) ∙ (after_mark-nil left ∙ sym (drop_all (length log) log (omega arith)))
 
 -- an operation is one mark or none
 pub at_most_one : (b : Bool) → cond b 1 0 ≤ 1

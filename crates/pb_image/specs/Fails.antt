@@ -27,7 +27,7 @@ count_of FenceCall calls = calls.fence
 count_of SyncCall calls = calls.sync
 count_of Any calls = calls.any
 
--- the counts behind one more call of a kind
+-- the counts after one more call of a kind
 abbrev pub counted : Call → Calls → Calls
 counted Read calls = record calls { read = raised calls.read; any = raised calls.any }
 counted Write calls = record calls { write = raised calls.write; any = raised calls.any }
@@ -74,7 +74,7 @@ abbrev pub added_by : LogOp → Option How → Option LogOp
 added_by op None = Some op
 added_by op (Some how) = left_by how op
 
--- the count of faults behind a call
+-- the count of faults after a call
 abbrev pub faults_after : Option How → ℕ → ℕ
 faults_after None faults = faults
 faults_after (Some how) faults = raised faults

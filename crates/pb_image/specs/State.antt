@@ -52,14 +52,14 @@ abbrev pub failure_of : Call → ImageView → Option How
 failure_of call image =
     if nat_le image.room (length image.log) then Some Left else failure call image.calls image.fails
 
--- the device behind a read
+-- the device after a read
 abbrev pub after_read : ImageView → ImageView
 after_read image = record image {
   calls = counted Read image.calls;
   faults = faults_after (failure_of_read image) image.faults;
 }
 
--- the device behind a call of this kind that adds an operation
+-- the device after a call of this kind that adds an operation
 abbrev pub after_call : Call → LogOp → ImageView → ImageView
 after_call call op image = record image {
   log = image.log ++ option_to_list (added_by op (failure_of call image));

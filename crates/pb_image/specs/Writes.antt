@@ -1,5 +1,5 @@
 -- What is known while the writes of a log are sorted, from its last operation to its first.
--- `next` tells where each line leads: a line is noted as given to the device where it leads to one behind itself.
+-- `next` tells where each line leads: a line is noted as given to the device where it leads to one after itself.
 use Rattle.std.specs.Prelude.{◌≡◌, ℕ, ◌<◌, ◌≤◌, Bool, List, length, nat_lt, reverse, slice_index}
 use Rattle.std.specs.List.{list_any}
 use Rattle.pb_pmem.specs.declared.line.TheConstants.{LINES}

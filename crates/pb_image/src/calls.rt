@@ -113,7 +113,7 @@ pub fn added_by(op: LogOp, how: Option<How>) -> Option<LogOp>
     }
 }
 
-/// The count of faults behind a call.
+/// The count of faults after a call.
 pub fn faults_after(how: Option<How>, faults: u64) -> u64
     ensures { result ≡ faults_after how faults }
 {

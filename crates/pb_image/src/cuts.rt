@@ -1,6 +1,6 @@
 //! Where the marks of a log stand.
 ghost use Rattle.std.specs.Prelude.{◌≡◌, ◌<◌, ◌≤◌, ◌^◌, length, take, drop, if◌then◌else◌};
-ghost use Rattle.pb_pmem.specs.Crash.{is_mark, is_sync, marks, least_cut, through_mark, behind_mark, until_mark};
+ghost use Rattle.pb_pmem.specs.Crash.{is_mark, is_sync, marks, least_cut, through_mark, after_mark, until_mark};
 
 use pb_pmem::LogOp;
 
@@ -56,7 +56,7 @@ pub fn cuts_of(log: &[LogOp]) -> (u32, u32)
 pub fn mark_end(log: &[LogOp], cut: u32) -> usize
     ensures within { result ≤ length log.now }
     ensures through { take result log.now ≡ through_mark cut log.now }
-    ensures behind { drop result log.now ≡ behind_mark cut log.now }
+    ensures after { drop result log.now ≡ after_mark cut log.now }
 {
     let mut left = cut;
     for (i, op) in log.iter().enumerate() {

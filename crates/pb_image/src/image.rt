@@ -48,7 +48,7 @@ impl Model for Image {
 
 impl Image {
     ghost use Rattle.std.specs.Prelude.{◌*◌, take};
-    ghost use Rattle.pb_pmem.specs.Crash.{least_cut, greatest_cut, IsLeftAt, IsAtRest};
+    ghost use Rattle.pb_pmem.specs.Crash.{least_cut, greatest_cut, IsCrashImageAtCut, IsAtRest};
     ghost use Rattle.pb_image.specs.Bytes.{lines_of_bytes};
     ghost use Rattle.pb_image.specs.Picked.{picked};
     ghost use Rattle.pb_image.specs.State.{ImageView, IsNew};
@@ -86,7 +86,7 @@ impl Image {
         })
     }
 
-    /// The least and the greatest cut that a crash behind the first `moment` operations may pick.
+    /// The least and the greatest cut that a crash after the first `moment` operations may pick.
     pub fn cuts(&self, moment: u32) -> (u32, u32)
         requires { moment ≤ length self.now.log }
         ensures least { result.0 ≡ least_cut (take moment self.now.log) }
@@ -95,7 +95,7 @@ impl Image {
         cuts_of(self.log.split_at(moment as usize).0)
     }
 
-    /// A new device, as a crash behind the first `moment` operations leaves this one at a cut.
+    /// A new device, as a crash after the first `moment` operations leaves this one at a cut.
     /// Pick 0 leaves nothing of the loose writes, pick 1 all of them, and a greater pick fills with itself each line
     /// that one of them wrote whole, and leaves the others. The new device is at rest.
     pub fn after_crash(
@@ -110,7 +110,7 @@ impl Image {
         requires low { least_cut (take moment self.now.log) ≤ cut }
         requires high { cut ≤ greatest_cut (take moment self.now.log) }
         ensures exact { IfOk result (IsNew (picked self.now.base (take moment self.now.log) cut pick) room) }
-        ensures allowed { IfOk result (λ image. IsLeftAt self.now.base (take moment self.now.log) cut image.base) }
+        ensures allowed { IfOk result (λ image. IsCrashImageAtCut self.now.base (take moment self.now.log) cut image.base) }
         ensures rest { IfOk result (λ image. IsAtRest image.base image.log) }
     {
         let log = self.log.split_at(moment as usize).0;

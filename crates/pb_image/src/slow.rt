@@ -45,8 +45,8 @@ fn covers(op: &LogOp, line: u32) -> bool {
     }
 }
 
-// A write is settled where a `Back` of its line stands behind it and before mark `cut`,
-// barred where it stands behind mark `cut + 1`, and else loose.
+// A write is settled where a `Back` of its line stands after it and before mark `cut`,
+// barred where it stands after mark `cut + 1`, and else loose.
 fn fate_of(log: &[LogOp], cut: u32, place: usize, line: u32) -> Fate {
     for (at, op) in log.iter().enumerate() {
         if at > place && at < before_mark(log, cut) && covers(op, line) {

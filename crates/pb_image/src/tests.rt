@@ -22,7 +22,7 @@ fn store(image: &mut Image, first: u32, record: &[Line; 3], index: u64) -> Resul
     image.sync()
 }
 
-// Writes the empty region: record 0, both index lines, the header, and behind a fence the magic.
+// Writes the empty region: record 0, both index lines, the header, and after a fence the magic.
 fn format(image: &mut Image) -> Result<(), PmemFault> {
     for line in [3, 4, 5, 1, 2] {
         image.write(line, &Line::default())?;
@@ -40,7 +40,7 @@ fn format(image: &mut Image) -> Result<(), PmemFault> {
     image.sync()
 }
 
-// The device behind a map of one client and size 4 that took two requests, `put 3 77` and `get 3`: 34 operations.
+// The device after a map of one client and size 4 that took two requests, `put 3 77` and `get 3`: 34 operations.
 fn first_command(alloc: Global) -> Result<Image, TestFail> {
     let mut image = Image::zero(alloc, 4096)?;
     format(&mut image)?;

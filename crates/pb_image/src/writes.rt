@@ -14,7 +14,7 @@ use crate::lines::{apply, filled};
 use pb_pmem::{LINES, Line, LogOp};
 use std::alloc::{AllocError, Global};
 
-/// The writes of a log that a `Back` of their line stands behind, and the others.
+/// The writes of a log that a `Back` of their line stands after, and the others.
 #[derive(Drop)]
 pub struct Writes {
     pub settled: Vec<LogOp>,
@@ -68,7 +68,7 @@ fn note_back(next: &mut Vec<u32>, op: &LogOp)
     }
 }
 
-/// Puts a write with those that are backed or with the others. `next` notes the lines that are given to the device behind it.
+/// Puts a write with those that are backed or with the others. `next` notes the lines that are given to the device after it.
 fn sort_one(writes: &mut Writes, next: &[u32], op: &LogOp) -> Result<(), AllocError>
     requires within { IsTrue (is_within op.now) }
     requires whole { length next.now ≡ LINES }
@@ -122,9 +122,9 @@ pub fn writes_at(alloc: Global, log: &[LogOp], cut: u32) -> Result<Writes, Alloc
     ensures settled { IfOk result (λ writes. writes.settled.items ≡ settled_writes cut log.now) }
     ensures loose { IfOk result (λ writes. writes.loose.items ≡ loose_writes cut log.now) }
 {
-    let (reached, behind) = log.split_at(mark_end(log, cut));
+    let (reached, after) = log.split_at(mark_end(log, cut));
     let mut writes = sort_writes(alloc, reached)?;
-    let next = behind.split_at(first_mark(behind)).0;
+    let next = after.split_at(first_mark(after)).0;
     writes.loose.extend_from_slice(next)?;
     Ok(writes)
 }

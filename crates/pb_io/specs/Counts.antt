@@ -6,7 +6,7 @@ use Rattle.pb_pmem.specs.Count.{last_count}
 abbrev pub one_more : ℕ → ℕ
 one_more count = min (count + 1) last_count
 
--- the count of faults behind a call: an error raises it by one
+-- the count of faults after a call: an error raises it by one
 abbrev pub counted : {T E : Type 0} → ℕ → Result T E → ℕ
 counted faults (Ok _) = faults
 counted faults (Err _) = one_more faults

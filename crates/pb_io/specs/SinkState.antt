@@ -25,7 +25,7 @@ IsWriteFault sink wanted = Contains sink.fails (one_more sink.calls) ⊎ ((0 < w
 abbrev pub write_count : SinkState → ℕ → ℕ
 write_count sink wanted = min (min sink.piece wanted) (sink.room - length sink.bytes)
 
--- the sink behind a write
+-- the sink after a write
 abbrev pub after_write : {E : Type 0} → SinkState → List ℕ → Result ℕ E → SinkState
 after_write sink from (Ok count) =
     record sink { bytes = sink.bytes ++ take count from; calls = one_more sink.calls }

@@ -20,7 +20,7 @@ IsReadFault source = Contains source.fails (one_more source.calls)
 abbrev pub read_count : SourceState → ℕ → ℕ
 read_count source room = min (min source.piece room) (length source.rest)
 
--- the source behind a read
+-- the source after a read
 abbrev pub after_read : {E : Type 0} → SourceState → Result ℕ E → SourceState
 after_read source (Ok count) =
     record source { rest = drop count source.rest; calls = one_more source.calls }

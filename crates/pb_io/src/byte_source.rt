@@ -98,7 +98,7 @@ impl Source for ByteSource {
 /// Copies as many of the first bytes of `from` as the piece and `into` allow, and says how many.
 fn copy_piece(from: &[u8], piece: usize, into: &mut [u8]) -> usize
     ensures count { result ≡ min (min piece (length into.new)) (length from.now) }
-    ensures front { take result into.new ≡ take result from.now }
+    ensures prefix { take result into.new ≡ take result from.now }
 {
     let count = piece.min(into.len()).min(from.len());
     into[..count].copy_from_slice(&from[..count]);

@@ -17,7 +17,7 @@ pub trait Source {
     /// How often a read has failed.
     ghost fault_count: { Self → ℕ };
 
-    /// Puts some of the next bytes at the front of `into`, and says how many. Zero for a nonempty `into` is the end.
+    /// Puts some of the next bytes at the start of `into`, and says how many. Zero for a nonempty `into` is the end.
     /// After an error nothing is known of `into`, and the bytes that are left are as before.
     fn read(&mut self, into: &mut [u8]) -> Result<usize, SourceFault>
         ensures bound { IfOk result (λ count. count ≤ length into.new) }

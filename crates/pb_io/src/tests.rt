@@ -135,6 +135,34 @@ fn a_standard_reader_is_a_source(rt: HostRuntime) -> Result<(), Fail> {
     Ok(())
 }
 
+// Gives one byte, is at its end, and then gives one byte more.
+#[derive(Drop)]
+struct Resumed(u32);
+
+impl Read for Resumed {
+    fn read(&mut self, into: &mut [u8]) -> io::Result<usize> {
+        self.0 = self.0.saturating_add(1);
+        match (self.0, into) {
+            (1 | 3, [first, ..]) => {
+                *first = b'x';
+                Ok(1)
+            }
+            _ => Ok(0),
+        }
+    }
+}
+
+#[test]
+fn each_read_of_a_source_is_one_of_its_reader(rt: HostRuntime) -> Result<(), Fail> {
+    let alloc = rt.alloc();
+    let mut source = StdSource::new(Resumed(0));
+    let (mut answers, mut bytes) = (Vec::new(alloc), Vec::new(alloc));
+    read_times(&mut source, 4, &mut answers, &mut bytes)?;
+    assert_eq!(rt; answers.as_slice(), [Ok(1), Ok(0), Ok(1), Ok(0)].as_slice());
+    assert_eq!(rt; source.faults(), 0);
+    Ok(())
+}
+
 #[test]
 fn a_standard_writer_is_a_sink(rt: HostRuntime) -> Result<(), Fail> {
     let alloc = rt.alloc();

@@ -4,7 +4,8 @@ use Rattle.std.specs.Prelude.{replicate, slice_get}
 use Rattle.std.proofs.lemmas.Bool.Decides.{nat_tests}
 use Rattle.pb_pmem.specs.declared.line.Line.{Line}
 use Rattle.pb_layout.specs.Cell.{cell_line_of, IsCell}
-use Rattle.pb_layout.specs.Header.{IsHeader, header_line_of, header_tests, named_header, record_length, first_record_line, word, IsHeaderFault}
+use Rattle.pb_layout.specs.Shape.{IsHeader}
+use Rattle.pb_layout.specs.Header.{header_line_of, header_tests, named_header, old_record_length, old_first_record_line, word, IsHeaderFault}
 use Rattle.pb_layout.specs.declared.fault.LayoutFault.{LayoutFault}
 use Rattle.pb_layout.specs.declared.fault.LayoutFault.TheVariants.{NoMagic, BadHeader, BadRecord}
 use Rattle.pb_layout.specs.declared.header.Header.{Header}
@@ -20,8 +21,8 @@ header_tests-of head valid =
     let kind = ap is_some (kind_of_code-code head.kind) in
     let clients = within_test 1 16 head.clients valid.some_clients valid.few_clients in
     let size = within_test 1 1024 head.size valid.some_size valid.small_size in
-    let length = eq-eqb (record_length head) (record_length (named_header (header_line_of head))) (ap record_length (sym (named_header-of head))) in
-    let first = eq-eqb (first_record_line head) (first_record_line (named_header (header_line_of head))) (ap first_record_line (sym (named_header-of head))) in
+    let length = eq-eqb (old_record_length head) (old_record_length (named_header (header_line_of head))) (ap old_record_length (sym (named_header-of head))) in
+    let first = eq-eqb (old_first_record_line head) (old_first_record_line (named_header (header_line_of head))) (ap old_first_record_line (sym (named_header-of head))) in
     λ i. true ∷ true ∷ kind i ∷ clients i ∷ size i ∷ length i ∷ first i ∷ true ∷ []
 
 all_true : (n place : ℕ) → slice_get (replicate n true) place ≡ Some false → ⊥

@@ -1,20 +1,21 @@
 -- Each check of a region is decided, and so is which comes first.
-use Rattle.std.proofs.Common.{◌≡◌, ◌⊎◌, ℕ, ◌+◌, ◌-◌, ◌<◌, List, [], ◌∷◌, ◌++◌, length, refl, sym, ap, ◌∙◌, subst, inl, inr, arith}
+use Rattle.std.proofs.Common.{◌≡◌, ◌≢◌, ◌⊎◌, ℕ, ◌+◌, ◌*◌, ◌/◌, ◌%◌, ◌<◌, List, [], ◌∷◌, ◌++◌, length, refl, sym, ap, ◌∙◌, inl, inr, arith}
 use Rattle.std.proofs.lemmas.Bool.{cases_lt}
 use Rattle.pb_pmem.specs.declared.line.Line.{Line}
 use Rattle.pb_pmem.specs.Lines.{line_at}
 use Rattle.pb_object.specs.declared.kind.Kind.{Kind}
 use Rattle.pb_object.specs.declared.kind.Kind.TheVariants.{Queue}
+use Rattle.pb_object.specs.declared.request.TheConstants.{KEPT_REQUESTS}
 use Rattle.pb_object.specs.ObjectLines.{IsAllowedLine, IsFirstRefused}
 use Rattle.pb_object.specs.Standing.{side_count}
-use Rattle.pb_layout.specs.Damage.{Check, AllPass, IsFirstNamed, IsFirstWithout, header_in, round_in, record_in, object_lines_in, record_place_in, client_place_in, object_place_by, IsRoundLine, taken_in, waiting_in, IsCellAt, region_checks}
-use Rattle.pb_layout.specs.Header.{IsHeaderLine, word}
-use Rattle.pb_layout.specs.Record.{count_line_of, IsClientLine, client_line_at, number_sum, IsRecord, HasBadClient, HasManyRounds, IsBadRecordAt}
+use Rattle.pb_layout.specs.Damage.{Check, AllPass, IsFirstNamed, header_in, round_in, record_in, object_lines_in, record_place_in, slot_place_in, object_place_by, IsRoundLine, taken_in, waiting_in, IsCellAt, region_checks}
+use Rattle.pb_layout.specs.Header.{IsHeaderLine, slot_count, word}
+use Rattle.pb_layout.specs.Record.{count_line_of, slot_at, number_sum, IsSlot, IsFirstWithout, IsRecord, HasBadSlot, HasManyRounds, IsBadRecordAt}
 use Rattle.pb_layout.specs.Region.{cell_place}
 use Rattle.pb_layout.specs.Represents.{number_at, IsApart}
 use Rattle.pb_layout.specs.ClientLine.{kept_in}
 use Rattle.pb_layout.specs.declared.header.Header.{Header}
-use Rattle.pb_layout.proofs.Decided.{Decided, decided_by, decided_both, decided_if, decided_not, decided_eq, decided_lt, decided_le, decided_below, one_first, decided_line}
+use Rattle.pb_layout.proofs.Decided.{Decided, decided_by, decided_both, decided_if, decided_not, decided_eq, decided_lt, decided_le, decided_below, decided_all, one_first, decided_line}
 use Rattle.pb_layout.proofs.Readers.{decided_kind, decided_kept, decided_header_line, decided_cell, decided_allowed}
 
 -- a check passes or names a line, never both, and never two lines
@@ -47,15 +48,15 @@ all_one (check ∷ checks) sharp a b (inl left) (inr right) = absurd (sharp.0.so
 all_one (check ∷ checks) sharp a b (inr left) (inl right) = absurd (sharp.0.sound b right left.0)
 all_one (check ∷ checks) sharp a b (inr left) (inr right) = all_one checks sharp.1 a b left.1 right.1
 
--- more checks behind these: a line that these name is named, and where these pass those name the line
+-- more checks after these: a line that these name is named, and where these pass those name the line
 pub named_before : (checks more : List Check) (line : ℕ) → IsFirstNamed checks line → IsFirstNamed (checks ++ more) line
 named_before [] more line named = absurd named
 named_before (check ∷ checks) more line (inl refused) = inl refused
 named_before (check ∷ checks) more line (inr later) = inr (later.0, named_before checks more line later.1)
 
-pub named_behind : (checks more : List Check) (line : ℕ) → AllPass checks → IsFirstNamed more line → IsFirstNamed (checks ++ more) line
-named_behind [] more line pass named = named
-named_behind (check ∷ checks) more line pass named = inr (pass.0, named_behind checks more line pass.1 named)
+pub named_after : (checks more : List Check) (line : ℕ) → AllPass checks → IsFirstNamed more line → IsFirstNamed (checks ++ more) line
+named_after [] more line pass named = named
+named_after (check ∷ checks) more line pass named = inr (pass.0, named_after checks more line pass.1 named)
 
 -- a check that names one line
 sharp_here : (P : Type 0) (place : ℕ) → Decided P → IsSharp (record { passes = P; refuses = λ line. (line ≡ place) × ¬ P })
@@ -82,49 +83,35 @@ decided_round_line : (kind : Kind) (side : ℕ) (line : Line) → Decided (IsRou
 decided_round_line kind side line =
     decided_by (λ p. record { count = p.0; no_side = p.1 }) (λ r. (r.count, r.no_side)) (decided_both (decided_line line (count_line_of (word line 0))) (decided_if (decided_le (side_count kind) side) (decided_eq (word line 0) 0)))
 
-decided_client : (kind : Kind) (side : ℕ) (lines : List Line) (client : ℕ) → Decided (IsClientLine kind side (client_line_at lines client))
-decided_client kind side lines client = decided_kept kind side (kept_in (client_line_at lines client))
+decided_slot : (kind : Kind) (side : ℕ) (lines : List Line) (place : ℕ) → Decided (IsSlot kind side lines place)
+decided_slot kind side lines place =
+    decided_by (λ p. record { allowed = p.0; falls = p.1 }) (λ r. (r.allowed, r.falls)) (decided_both (decided_kept kind side (kept_in (slot_at lines place))) (decided_if (decided_not (decided_eq (place % KEPT_REQUESTS) 0)) (decided_if (decided_not (decided_eq (word (slot_at lines place) 0) 0)) (decided_lt (word (slot_at lines place) 0) (word (line_at lines place) 0)))))
 
 -- a record is one, or has a first refused line
 pub record_answer : (head : Header) (side round : ℕ) (lines : List Line) → IsRecord head side round lines ⊎ ((place : ℕ) × IsBadRecordAt head side round lines place)
 record_answer head side round lines =
     elim (decided_line (line_at lines 0) (count_line_of round)) [
       | inr other ↦ inr (0, inl (record { place = refl; refused = other }))
-      | inl carries ↦ elim (decided_below (λ client. IsClientLine head.kind side (client_line_at lines client)) (decided_client head.kind side lines) head.clients) [
-        | inr first ↦ inr (
-          1 + first.0,
-          inr (inl (record {
-            some = omega arith;
-            place = omega (arith, first.1.within);
-            carries = carries;
-            before = λ client inside. first.1.before client (omega arith);
-            refused = first.1.refused;
-          })),
-        )
-        | inl all ↦ elim (cases_lt (number_sum head lines) round) [
-          | inl many ↦ inr (0, inr (inr (record { place = refl; carries = carries; clients = all; refused = many })))
-          | inr few ↦ inl (record { carries = carries; clients = all; rounds = few })
+      | inl carries ↦ elim (decided_below (IsSlot head.kind side lines) (decided_slot head.kind side lines) (slot_count head)) [
+        | inr first ↦ inr (1 + first.0, inr (inl (record { carries = carries; slot = first.0; place = refl; first = first.1 })))
+        | inl all ↦ elim (cases_lt (number_sum lines head.clients) round) [
+          | inl many ↦ inr (0, inr (inr (record { place = refl; carries = carries; slots = all; refused = many })))
+          | inr few ↦ inl (record { carries = carries; slots = all; rounds = few })
         ]
       ]
     ]
 
-client_before : (head : Header) (side : ℕ) (lines : List Line) (line : ℕ) → 0 < line → ((client : ℕ) → 1 + client ≡ line → IsClientLine head.kind side (client_line_at lines client)) → IsClientLine head.kind side (line_at lines line)
-client_before head side lines line some each =
-    let back : 1 + (line - 1) ≡ line = omega arith in
-    subst (λ (k : ℕ). IsClientLine head.kind side (line_at lines k)) back (each (line - 1) back)
-
 pub record_sound : (head : Header) (side round : ℕ) (lines : List Line) (place : ℕ) → IsBadRecordAt head side round lines place → ¬ IsRecord head side round lines
 record_sound head side round lines place (inl bad) = λ own. bad.refused own.carries
-record_sound head side round lines place (inr (inl bad)) = λ own. bad.refused (client_before head side lines place bad.some (λ client e. own.clients client (omega (arith, bad.place))))
+record_sound head side round lines place (inr (inl bad)) = λ own. bad.first.refused (own.slots bad.slot bad.first.within)
 record_sound head side round lines place (inr (inr bad)) = λ own. omega (arith, bad.refused, own.rounds)
 
-client_first : (head : Header) (side round : ℕ) (lines : List Line) (a b : ℕ) → HasBadClient head side round lines a → HasBadClient head side round lines b → a < b → ⊥
-client_first head side round lines a b left right below =
-    left.refused (client_before head side lines a left.some (λ client e. right.before client (omega arith)))
+slot_one : (head : Header) (side round : ℕ) (lines : List Line) (a b : ℕ) → HasBadSlot head side round lines a → HasBadSlot head side round lines b → a ≡ b
+slot_one head side round lines a b left right =
+    left.place ∙ (ap (λ (n : ℕ). 1 + n) (one_first (IsSlot head.kind side lines) (slot_count head) left.slot right.slot left.first right.first) ∙ sym right.place)
 
-client_or_many : (head : Header) (side round : ℕ) (lines : List Line) (a b : ℕ) → HasBadClient head side round lines a → HasManyRounds head side round lines b → ⊥
-client_or_many head side round lines a b left right =
-    left.refused (client_before head side lines a left.some (λ client e. right.clients client (omega (arith, left.place))))
+slot_or_many : (head : Header) (side round : ℕ) (lines : List Line) (a b : ℕ) → HasBadSlot head side round lines a → HasManyRounds head side round lines b → ⊥
+slot_or_many head side round lines a b left right = left.first.refused (right.slots left.slot left.first.within)
 
 pub record_one : (head : Header) (side round : ℕ) (lines : List Line) (a b : ℕ) → IsBadRecordAt head side round lines a → IsBadRecordAt head side round lines b → a ≡ b
 record_one head side round lines a b (inl left) (inl right) = left.place ∙ sym right.place
@@ -132,13 +119,9 @@ record_one head side round lines a b (inl left) (inr (inl right)) = absurd (left
 record_one head side round lines a b (inl left) (inr (inr right)) = absurd (left.refused right.carries)
 record_one head side round lines a b (inr (inl left)) (inl right) = absurd (right.refused left.carries)
 record_one head side round lines a b (inr (inr left)) (inl right) = absurd (right.refused left.carries)
-record_one head side round lines a b (inr (inl left)) (inr (inl right)) =
-    elim (cases_lt a b) [
-      | inl below ↦ absurd (client_first head side round lines a b left right below)
-      | inr above ↦ elim (cases_lt b a) [ inl below ↦ absurd (client_first head side round lines b a right left below) | inr same ↦ omega arith ]
-    ]
-record_one head side round lines a b (inr (inl left)) (inr (inr right)) = absurd (client_or_many head side round lines a b left right)
-record_one head side round lines a b (inr (inr left)) (inr (inl right)) = absurd (client_or_many head side round lines b a right left)
+record_one head side round lines a b (inr (inl left)) (inr (inl right)) = slot_one head side round lines a b left right
+record_one head side round lines a b (inr (inl left)) (inr (inr right)) = absurd (slot_or_many head side round lines a b left right)
+record_one head side round lines a b (inr (inr left)) (inr (inl right)) = absurd (slot_or_many head side round lines b a right left)
 record_one head side round lines a b (inr (inr left)) (inr (inr right)) = left.place ∙ sym right.place
 
 sharp_record_by : (Q : Type 0) (head : Header) (side round : ℕ) (lines : List Line) (at : ℕ) → Decided Q → IsSharp (record { passes = Q → IsRecord head side round lines; refuses = λ line. Q × ((place : ℕ) × (line ≡ at + place) × IsBadRecordAt head side round lines place) })
@@ -163,9 +146,9 @@ sharp_objects kind size lines at = record {
   one = λ a b left right. left.1 ∙ (ap at (one_first (IsAllowedLine kind size lines) (length lines) left.0 right.0 (record { within = left.2.within; before = left.2.before; refused = left.2.refused }) (record { within = right.2.within; before = right.2.before; refused = right.2.refused })) ∙ sym right.1);
 }
 
-decided_apart : (records : ℕ → List Line) (client : ℕ) → Decided (IsApart records client)
-decided_apart records client =
-    decided_if (decided_not (decided_eq (number_at records 1 client) 0)) (decided_not (decided_eq (number_at records 1 client) (number_at records 0 client)))
+decided_apart : (records : ℕ → List Line) (place : ℕ) → Decided (IsApart records place)
+decided_apart records place =
+    decided_if (decided_not (decided_eq (number_at records 1 place) 0)) (decided_all (λ slot. number_at records 1 place ≢ number_at records 0 (KEPT_REQUESTS * (place / KEPT_REQUESTS) + slot)) (λ slot. decided_not (decided_eq (number_at records 1 place) (number_at records 0 (KEPT_REQUESTS * (place / KEPT_REQUESTS) + slot)))) KEPT_REQUESTS)
 
 -- all checks of a region are sharp
 pub region_sharp : (image : List Line) → AllSharp (region_checks image)
@@ -185,7 +168,7 @@ region_sharp image =
               (
                 sharp_objects head.kind head.size (object_lines_in image) (object_place_by head.kind image),
                 (
-                  sharp_each (head.kind ≡ Queue) (IsApart records) head.clients (client_place_in image 1) queue (decided_apart records),
+                  sharp_each (head.kind ≡ Queue) (IsApart records) (slot_count head) (slot_place_in image 1) queue (decided_apart records),
                   (
                     sharp_each (head.kind ≡ Queue) (IsCellAt image) (waiting_in image) (λ place. cell_place head (taken_in image + place)) queue (λ place. decided_cell (taken_in image + place) (line_at image (cell_place head (taken_in image + place)))),
                     tt,

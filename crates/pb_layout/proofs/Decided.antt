@@ -3,7 +3,7 @@ use Rattle.std.proofs.Common.{◌≡◌, ◌⊎◌, ℕ, ◌<◌, ◌≤◌, zer
 use Rattle.std.proofs.lemmas.Bool.{cases_lt, cases_eq}
 use Rattle.std.specs.Cmp.Lexicographic.{pointwise, bytes_decides}
 use Rattle.pb_pmem.specs.declared.line.Line.{Line}
-use Rattle.pb_layout.specs.Damage.{IsFirstWithout}
+use Rattle.pb_layout.specs.Record.{IsFirstWithout}
 use Rattle.pb_pmem.proofs.Lines.{same_line}
 
 -- the fact holds, or it doesn't

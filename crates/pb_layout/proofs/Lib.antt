@@ -5,12 +5,13 @@ pub mod Keeping
 pub mod LegalHistories
 pub mod Lines
 pub mod LogHistories
-pub mod OneAnswer
-pub mod OneSided
+pub mod OneRecovery
 pub mod OneStanding
 pub mod Places
 pub mod Readers
 pub mod Readiness
 pub mod Records
 pub mod Replies
-pub mod Turn
+pub mod ChangedRegion
+pub mod SlotLemmas
+pub mod ShiftedSlots

@@ -13,11 +13,11 @@ use Rattle.pb_pmem.specs.Contents.{contents}
 use Rattle.pb_pmem.specs.Crash.{is_sync, is_back_of}
 use Rattle.pb_pmem.specs.Lines.{word_of}
 use Rattle.pb_object.specs.History.{Round}
-use Rattle.pb_layout.specs.LogHistory.{LoggedRound, round_at, raises_index, backed_by, sealed_by_sync, recorded_by_op, history_of}
-use Rattle.pb_layout.specs.Told.{IsIndexWord, HasBackBehind, HasSyncBehind, IsRoundAt, TellsByPlaces}
+use Rattle.pb_layout.specs.LogHistory.{LoggedRound, sides_in, round_at, raises_index, backed_by, sealed_by_sync, recorded_by_op, history_of}
+use Rattle.pb_layout.specs.HistoryByPlaces.{IsIndexWord, HasBackAfter, HasSyncAfter, IsRoundAt, TellsByPlaces}
 use Rattle.pb_layout.proofs.LogHistories.{history_of-push, history_of-none}
 
--- The elements of a list with one more behind it
+-- The elements of a list with one more after it
 
 get-before : {X : Type 0} (xs : List X) (y : X) (k : ℕ) → k < length xs → slice_get (xs ++ y ∷ []) k ≡ slice_get xs k
 get-before [] y k inside = absurd (omega arith)
@@ -33,7 +33,7 @@ get-cases xs y k x at = go (cases_lt k (length xs)) (cases_lt (length xs) k)
   where
     go : (k < length xs) ⊎ (length xs ≤ k) → (length xs < k) ⊎ (k ≤ length xs) → ((k < length xs) × (slice_get xs k ≡ Some x)) ⊎ ((k ≡ length xs) × (y ≡ x))
     go (inl inside) other = inl (inside, sym (get-before xs y k inside) ∙ at)
-    go (inr past) (inl behind) = absurd (omega (arith, behind, slice_get_within (xs ++ y ∷ []) k x at, length-append xs (y ∷ [])))
+    go (inr past) (inl after) = absurd (omega (arith, after, slice_get_within (xs ++ y ∷ []) k x at, length-append xs (y ∷ [])))
     go (inr past) (inr before) =
         let here : k ≡ length xs = omega arith in
         inr (here, same_Some y x (sym (get-last xs y) ∙ (ap (slice_get (xs ++ y ∷ [])) (sym here) ∙ at)))
@@ -48,7 +48,7 @@ get-some (x ∷ xs) (suc k) inside = get-some xs k (omega arith)
 
 -- What one more operation makes of the rounds
 
--- a round behind one more operation
+-- a round after one more operation
 abbrev pub stepped_by : LogOp → LoggedRound → LoggedRound
 stepped_by op logged = record {
   round = logged.round;
@@ -100,20 +100,20 @@ recorded-more line word to lines rounds raises =
     rw (raises, stepped-still (Word line word to) rounds (λ l. refl) refl) refl
 
 -- what the test of an index word says
-raises-says : (lines : List Line) (line word to : ℕ) → raises_index lines line word to ≡ true → (1 ≤ line) × (line ≤ 2) × (word ≡ 0) × (to ≡ word_of lines line 0 + 1)
+raises-says : (lines : List Line) (line word to : ℕ) → raises_index lines line word to ≡ true → (1 ≤ line) × (line ≤ sides_in lines) × (word ≡ 0) × (to ≡ word_of lines line 0 + 1)
 raises-says lines line word to raises = (grind (arith, nat_tests), grind (arith, nat_tests), grind (arith, nat_tests), grind (arith, nat_tests))
 
-raises-since : (lines : List Line) (side to : ℕ) → side < 2 → to ≡ word_of lines (1 + side) 0 + 1 → raises_index lines (1 + side) 0 to ≡ true
+raises-since : (lines : List Line) (side to : ℕ) → side < sides_in lines → to ≡ word_of lines (1 + side) 0 + 1 → raises_index lines (1 + side) 0 to ≡ true
 raises-since lines side to here raises = grind (arith, nat_tests)
 
--- A place behind one more operation
+-- A place after one more operation
 
 -- an index word stands where it stood
 IsIndexWord-push : (base : List Line) (log : List LogOp) (op : LogOp) (place side index : ℕ) → IsIndexWord base log place side index → IsIndexWord base (log ++ op ∷ []) place side index
 IsIndexWord-push base log op place side index h =
     let within = slice_get_within log place _ h.word in
     record {
-      here = h.here;
+      here = rw (take-append-le place log (op ∷ []) (omega (arith, within))) h.here;
       word = get-grown log op place _ h.word;
       raises = rw (take-append-le place log (op ∷ []) (omega (arith, within))) h.raises;
     }
@@ -122,45 +122,48 @@ IsIndexWord-push base log op place side index h =
 IsIndexWord-cases : (base : List Line) (log : List LogOp) (op : LogOp) (place side index : ℕ) → IsIndexWord base (log ++ op ∷ []) place side index → IsIndexWord base log place side index ⊎ ((place ≡ length log) × (op ≡ Word (1 + side) 0 index) × (raises_index (contents base log) (1 + side) 0 index ≡ true))
 IsIndexWord-cases base log op place side index h = go (get-cases log op place (Word (1 + side) 0 index) h.word)
   where
+    here_before : place ≤ length log → side < sides_in (contents base (take place log))
+    here_before le = rw (take-append-le place log (op ∷ []) le) at h.here
+
     before : place ≤ length log → index ≡ word_of (contents base (take place log)) (1 + side) 0 + 1
     before le = rw (take-append-le place log (op ∷ []) le) at h.raises
 
     go : ((place < length log) × (slice_get log place ≡ Some (Word (1 + side) 0 index))) ⊎ ((place ≡ length log) × (op ≡ Word (1 + side) 0 index)) → IsIndexWord base log place side index ⊎ ((place ≡ length log) × (op ≡ Word (1 + side) 0 index) × (raises_index (contents base log) (1 + side) 0 index ≡ true))
-    go (inl (inside, at)) = inl (record { here = h.here; word = at; raises = before (omega arith) })
-    go (inr (place_is, same)) = inr (place_is, same, raises-since (contents base log) side index h.here (rw (place_is, take_all (length log) log (omega arith)) at before (omega arith)))
+    go (inl (inside, at)) = inl (record { here = here_before (omega arith); word = at; raises = before (omega arith) })
+    go (inr (place_is, same)) = inr (place_is, same, raises-since (contents base log) side index (rw (place_is, take_all (length log) log (omega arith)) at here_before (omega arith)) (rw (place_is, take_all (length log) log (omega arith)) at before (omega arith)))
 
-HasBackBehind-push : (log : List LogOp) (op : LogOp) (line place : ℕ) → HasBackBehind log line place → HasBackBehind (log ++ op ∷ []) line place
-HasBackBehind-push log op line place h =
-    record { back = h.back; op = h.op; behind = h.behind; at = get-grown log op h.back h.op h.at; covers = h.covers }
+HasBackAfter-push : (log : List LogOp) (op : LogOp) (line place : ℕ) → HasBackAfter log line place → HasBackAfter (log ++ op ∷ []) line place
+HasBackAfter-push log op line place h =
+    record { back = h.back; op = h.op; after = h.after; at = get-grown log op h.back h.op h.at; covers = h.covers }
 
-HasBackBehind-last : (log : List LogOp) (op : LogOp) (line place : ℕ) → place < length log → is_back_of line op ≡ true → HasBackBehind (log ++ op ∷ []) line place
-HasBackBehind-last log op line place inside covers =
-    record { back = length log; op = op; behind = inside; at = get-last log op; covers = covers }
+HasBackAfter-last : (log : List LogOp) (op : LogOp) (line place : ℕ) → place < length log → is_back_of line op ≡ true → HasBackAfter (log ++ op ∷ []) line place
+HasBackAfter-last log op line place inside covers =
+    record { back = length log; op = op; after = inside; at = get-last log op; covers = covers }
 
-HasBackBehind-cases : (log : List LogOp) (op : LogOp) (line place : ℕ) → HasBackBehind (log ++ op ∷ []) line place → HasBackBehind log line place ⊎ (is_back_of line op ≡ true)
-HasBackBehind-cases log op line place h = go (get-cases log op h.back h.op h.at)
+HasBackAfter-cases : (log : List LogOp) (op : LogOp) (line place : ℕ) → HasBackAfter (log ++ op ∷ []) line place → HasBackAfter log line place ⊎ (is_back_of line op ≡ true)
+HasBackAfter-cases log op line place h = go (get-cases log op h.back h.op h.at)
   where
-    go : ((h.back < length log) × (slice_get log h.back ≡ Some h.op)) ⊎ ((h.back ≡ length log) × (op ≡ h.op)) → HasBackBehind log line place ⊎ (is_back_of line op ≡ true)
-    go (inl (inside, at)) = inl (record { back = h.back; op = h.op; behind = h.behind; at = at; covers = h.covers })
+    go : ((h.back < length log) × (slice_get log h.back ≡ Some h.op)) ⊎ ((h.back ≡ length log) × (op ≡ h.op)) → HasBackAfter log line place ⊎ (is_back_of line op ≡ true)
+    go (inl (inside, at)) = inl (record { back = h.back; op = h.op; after = h.after; at = at; covers = h.covers })
     go (inr (last, same)) = inr (ap (is_back_of line) same ∙ h.covers)
 
-HasSyncBehind-push : (log : List LogOp) (op : LogOp) (line place : ℕ) → HasSyncBehind log line place → HasSyncBehind (log ++ op ∷ []) line place
-unfolding HasBackBehind-push
-HasSyncBehind-push log op line place h =
-    record { given = HasBackBehind-push log op line place h.given; sync = h.sync; later = h.later; waits = get-grown log op h.sync Sync h.waits }
+HasSyncAfter-push : (log : List LogOp) (op : LogOp) (line place : ℕ) → HasSyncAfter log line place → HasSyncAfter (log ++ op ∷ []) line place
+unfolding HasBackAfter-push
+HasSyncAfter-push log op line place h =
+    record { given = HasBackAfter-push log op line place h.given; sync = h.sync; later = h.later; waits = get-grown log op h.sync Sync h.waits }
 
-HasSyncBehind-last : (log : List LogOp) (op : LogOp) (line place : ℕ) → HasBackBehind log line place → op ≡ Sync → HasSyncBehind (log ++ op ∷ []) line place
-unfolding HasBackBehind-push
-HasSyncBehind-last log op line place h sync =
-    record { given = HasBackBehind-push log op line place h; sync = length log; later = slice_get_within log h.back h.op h.at; waits = get-last log op ∙ ap Some sync }
+HasSyncAfter-last : (log : List LogOp) (op : LogOp) (line place : ℕ) → HasBackAfter log line place → op ≡ Sync → HasSyncAfter (log ++ op ∷ []) line place
+unfolding HasBackAfter-push
+HasSyncAfter-last log op line place h sync =
+    record { given = HasBackAfter-push log op line place h; sync = length log; later = slice_get_within log h.back h.op h.at; waits = get-last log op ∙ ap Some sync }
 
-HasSyncBehind-cases : (log : List LogOp) (op : LogOp) (line place : ℕ) → HasSyncBehind (log ++ op ∷ []) line place → HasSyncBehind log line place ⊎ (HasBackBehind log line place × (op ≡ Sync))
-HasSyncBehind-cases log op line place h = go (get-cases log op h.given.back h.given.op h.given.at) (get-cases log op h.sync Sync h.waits)
+HasSyncAfter-cases : (log : List LogOp) (op : LogOp) (line place : ℕ) → HasSyncAfter (log ++ op ∷ []) line place → HasSyncAfter log line place ⊎ (HasBackAfter log line place × (op ≡ Sync))
+HasSyncAfter-cases log op line place h = go (get-cases log op h.given.back h.given.op h.given.at) (get-cases log op h.sync Sync h.waits)
   where
-    before : h.given.back < length log → slice_get log h.given.back ≡ Some h.given.op → HasBackBehind log line place
-    before inside at = record { back = h.given.back; op = h.given.op; behind = h.given.behind; at = at; covers = h.given.covers }
+    before : h.given.back < length log → slice_get log h.given.back ≡ Some h.given.op → HasBackAfter log line place
+    before inside at = record { back = h.given.back; op = h.given.op; after = h.given.after; at = at; covers = h.given.covers }
 
-    go : ((h.given.back < length log) × (slice_get log h.given.back ≡ Some h.given.op)) ⊎ ((h.given.back ≡ length log) × (op ≡ h.given.op)) → ((h.sync < length log) × (slice_get log h.sync ≡ Some Sync)) ⊎ ((h.sync ≡ length log) × (op ≡ Sync)) → HasSyncBehind log line place ⊎ (HasBackBehind log line place × (op ≡ Sync))
+    go : ((h.given.back < length log) × (slice_get log h.given.back ≡ Some h.given.op)) ⊎ ((h.given.back ≡ length log) × (op ≡ h.given.op)) → ((h.sync < length log) × (slice_get log h.sync ≡ Some Sync)) ⊎ ((h.sync ≡ length log) × (op ≡ Sync)) → HasSyncAfter log line place ⊎ (HasBackAfter log line place × (op ≡ Sync))
     go (inl (inside, at)) (inl (within, waits)) =
         inl (record { given = before inside at; sync = h.sync; later = h.later; waits = waits })
     go (inl (inside, at)) (inr (last, sync)) = inr (before inside at, sync)
@@ -174,7 +177,7 @@ is-sync (Back first count) e = cc
 is-sync Fence e = cc
 is-sync Sync e = refl
 
--- A round behind one more operation
+-- A round after one more operation
 
 IsRoundAt-push : (base : List Line) (log : List LogOp) (op : LogOp) (place : ℕ) (logged : LoggedRound) → IsRoundAt base log place logged → IsRoundAt base (log ++ op ∷ []) place (stepped_by op logged)
 IsRoundAt-push base log op place logged h =
@@ -196,33 +199,33 @@ IsRoundAt-push base log op place logged h =
     same_back : is_back_of (1 + logged.round.side) op ≡ is_back_of (1 + h.side) op
     same_back = ap (λ n. is_back_of (1 + n) op) same_side
 
-    to_back : (logged.backed || is_back_of (1 + logged.round.side) op) ≡ true → HasBackBehind (log ++ op ∷ []) (1 + h.side) place
+    to_back : (logged.backed || is_back_of (1 + logged.round.side) op) ≡ true → HasBackAfter (log ++ op ∷ []) (1 + h.side) place
     to_back e = go (or_cases logged.backed (is_back_of (1 + logged.round.side) op) e)
       where
-        go : (logged.backed ≡ true) ⊎ (is_back_of (1 + logged.round.side) op ≡ true) → HasBackBehind (log ++ op ∷ []) (1 + h.side) place
-        go (inl before) = HasBackBehind-push log op (1 + h.side) place (h.backed.0 before)
-        go (inr here) = HasBackBehind-last log op (1 + h.side) place inside (sym same_back ∙ here)
+        go : (logged.backed ≡ true) ⊎ (is_back_of (1 + logged.round.side) op ≡ true) → HasBackAfter (log ++ op ∷ []) (1 + h.side) place
+        go (inl before) = HasBackAfter-push log op (1 + h.side) place (h.backed.0 before)
+        go (inr here) = HasBackAfter-last log op (1 + h.side) place inside (sym same_back ∙ here)
 
-    from_back : HasBackBehind (log ++ op ∷ []) (1 + h.side) place → (logged.backed || is_back_of (1 + logged.round.side) op) ≡ true
-    from_back b = go (HasBackBehind-cases log op (1 + h.side) place b)
+    from_back : HasBackAfter (log ++ op ∷ []) (1 + h.side) place → (logged.backed || is_back_of (1 + logged.round.side) op) ≡ true
+    from_back b = go (HasBackAfter-cases log op (1 + h.side) place b)
       where
-        go : HasBackBehind log (1 + h.side) place ⊎ (is_back_of (1 + h.side) op ≡ true) → (logged.backed || is_back_of (1 + logged.round.side) op) ≡ true
+        go : HasBackAfter log (1 + h.side) place ⊎ (is_back_of (1 + h.side) op ≡ true) → (logged.backed || is_back_of (1 + logged.round.side) op) ≡ true
         go (inl before) = or_left logged.backed _ (h.backed.1 before)
         go (inr here) = or_right logged.backed _ (same_back ∙ here)
 
-    to_sync : (logged.sealed || (is_sync op && logged.backed)) ≡ true → HasSyncBehind (log ++ op ∷ []) (1 + h.side) place
+    to_sync : (logged.sealed || (is_sync op && logged.backed)) ≡ true → HasSyncAfter (log ++ op ∷ []) (1 + h.side) place
     to_sync e = go (or_cases logged.sealed (is_sync op && logged.backed) e)
       where
-        go : (logged.sealed ≡ true) ⊎ ((is_sync op && logged.backed) ≡ true) → HasSyncBehind (log ++ op ∷ []) (1 + h.side) place
-        go (inl before) = HasSyncBehind-push log op (1 + h.side) place (h.sealed.0 before)
+        go : (logged.sealed ≡ true) ⊎ ((is_sync op && logged.backed) ≡ true) → HasSyncAfter (log ++ op ∷ []) (1 + h.side) place
+        go (inl before) = HasSyncAfter-push log op (1 + h.side) place (h.sealed.0 before)
         go (inr here) =
             let both = and_parts (is_sync op) logged.backed here in
-            HasSyncBehind-last log op (1 + h.side) place (h.backed.0 both.1) (is-sync op both.0)
+            HasSyncAfter-last log op (1 + h.side) place (h.backed.0 both.1) (is-sync op both.0)
 
-    from_sync : HasSyncBehind (log ++ op ∷ []) (1 + h.side) place → (logged.sealed || (is_sync op && logged.backed)) ≡ true
-    from_sync b = go (HasSyncBehind-cases log op (1 + h.side) place b)
+    from_sync : HasSyncAfter (log ++ op ∷ []) (1 + h.side) place → (logged.sealed || (is_sync op && logged.backed)) ≡ true
+    from_sync b = go (HasSyncAfter-cases log op (1 + h.side) place b)
       where
-        go : HasSyncBehind log (1 + h.side) place ⊎ (HasBackBehind log (1 + h.side) place × (op ≡ Sync)) → (logged.sealed || (is_sync op && logged.backed)) ≡ true
+        go : HasSyncAfter log (1 + h.side) place ⊎ (HasBackAfter log (1 + h.side) place × (op ≡ Sync)) → (logged.sealed || (is_sync op && logged.backed)) ≡ true
         go (inl before) = or_left logged.sealed _ (h.sealed.1 before)
         go (inr (back, sync)) =
             or_right logged.sealed _ (and_from (is_sync op) logged.backed (ap is_sync sync) (h.backed.1 back))
@@ -234,16 +237,16 @@ IsRoundAt-new base log line word to raises =
       side = line - 1;
       index = to;
       word = record {
-        here = omega (arith, says.0, says.1);
+        here = subst (λ (l : List LogOp). line - 1 < sides_in (contents base l)) (sym all) (omega (arith, says.0, says.1));
         word = get-last log (Word line word to) ∙ ap Some same_word;
         raises = rw (all, back) says.3;
       };
       round = rw all refl;
-      backed = ((λ e. absurd (false≢true e)), (λ h. absurd (past h.back h.op h.behind h.at)));
-      sealed = ((λ e. absurd (false≢true e)), (λ h. absurd (past h.given.back h.given.op h.given.behind h.given.at)));
+      backed = ((λ e. absurd (false≢true e)), (λ h. absurd (past h.back h.op h.after h.at)));
+      sealed = ((λ e. absurd (false≢true e)), (λ h. absurd (past h.given.back h.given.op h.given.after h.given.at)));
     }
   where
-    says : (1 ≤ line) × (line ≤ 2) × (word ≡ 0) × (to ≡ word_of (contents base log) line 0 + 1)
+    says : (1 ≤ line) × (line ≤ sides_in (contents base log)) × (word ≡ 0) × (to ≡ word_of (contents base log) line 0 + 1)
     says = raises-says (contents base log) line word to raises
 
     back : 1 + (line - 1) ≡ line
@@ -256,10 +259,10 @@ IsRoundAt-new base log line word to raises =
     all = take-append-le (length log) log (Word line word to ∷ []) (omega arith) ∙ take_all (length log) log (omega arith)
 
     past : (k : ℕ) (op : LogOp) → length log < k → slice_get (log ++ Word line word to ∷ []) k ≡ Some op → ⊥
-    past k op behind at =
-        omega (arith, slice_get_within (log ++ Word line word to ∷ []) k op at, length-append log (Word line word to ∷ []), behind)
+    past k op after at =
+        omega (arith, slice_get_within (log ++ Word line word to ∷ []) k op at, length-append log (Word line word to ∷ []), after)
 
--- The history behind one more operation
+-- The history after one more operation
 
 -- the place of each round stands in the log
 place-within : (base : List Line) (log : List LogOp) (from : ℕ) (history : List LoggedRound) (told : TellsByPlaces base log from history) (k place : ℕ) → slice_get told.places k ≡ Some place → place < length log
@@ -275,7 +278,7 @@ rounds-before base log from history op told k place logged at_place at_round =
     let before = told.rounds k place some.0 at_place some.1 in
     (before.0, subst (λ l. IsRoundAt base (log ++ op ∷ []) place l) same (IsRoundAt-push base log op place some.0 before.1))
 
--- behind an operation that isn't an index word
+-- after an operation that isn't an index word
 tells-still : (base : List Line) (log : List LogOp) (from : ℕ) (history : List LoggedRound) (op : LogOp) → TellsByPlaces base log from history → raises_by (contents base log) op ≡ false → TellsByPlaces base (log ++ op ∷ []) from (map (stepped_by op) history)
 tells-still base log from history op told other =
     record {
@@ -289,7 +292,7 @@ tells-still base log from history op told other =
       ];
     }
 
--- behind an index word
+-- after an index word
 tells-more : (base : List Line) (log : List LogOp) (from : ℕ) (history : List LoggedRound) (line word to : ℕ) → from ≤ length log → TellsByPlaces base log from history → raises_index (contents base log) line word to ≡ true → TellsByPlaces base (log ++ Word line word to ∷ []) from (map (stepped_by (Word line word to)) history ++ new_round (contents base log) line to ∷ [])
 tells-more base log from history line word to from_here told raises =
     record {
@@ -324,7 +327,7 @@ tells-more base log from history line word to from_here told raises =
     rounds k place logged (inr (last, here)) (inr (also, new)) =
         (omega (arith, from_here, here), subst (λ n. IsRoundAt base (log ++ op ∷ []) n logged) here (subst (λ l. IsRoundAt base (log ++ op ∷ []) (length log) l) new (IsRoundAt-new base log line word to raises)))
 
--- the history behind one more operation is the one that its places tell
+-- the history after one more operation is the one that its places tell
 tells-push : (base : List Line) (log : List LogOp) (from : ℕ) (history : List LoggedRound) (op : LogOp) → from ≤ length log → TellsByPlaces base log from history → TellsByPlaces base (log ++ op ∷ []) from (recorded_by_op op (contents base log) history)
 tells-push base log from history op within told = go op (cases_Bool (raises_by (contents base log) op))
   where
@@ -359,11 +362,11 @@ tells-append base log (op ∷ more) from within told =
 -- the history of a log is the one that its places tell
 pub history_by_places : (base : List Line) (log : List LogOp) (from : ℕ) → from ≤ length log → TellsByPlaces base log from (history_of base log from)
 history_by_places base log from within =
-    subst (λ l. TellsByPlaces base l from (history_of base l from)) (take-append-drop from log) (tells-append base (take from log) (drop from log) from (omega (arith, long)) front)
+    subst (λ l. TellsByPlaces base l from (history_of base l from)) (take-append-drop from log) (tells-append base (take from log) (drop from log) from (omega (arith, long)) prefix)
   where
     long : length (take from log) ≡ from
     long = omega (arith, length-take from log)
 
-    front : TellsByPlaces base (take from log) from (history_of base (take from log) from)
-    front =
+    prefix : TellsByPlaces base (take from log) from (history_of base (take from log) from)
+    prefix =
         subst (λ n. TellsByPlaces base (take from log) n (history_of base (take from log) n)) long (subst (λ h. TellsByPlaces base (take from log) (length (take from log)) h) (sym (history_of-none base (take from log))) (tells-none base (take from log)))

@@ -20,7 +20,8 @@ use Rattle.pb_object.specs.Queue.{last_position}
 use Rattle.pb_object.specs.Request.{LeavesUnusedZero, IsOperation, none_kept}
 use Rattle.pb_layout.specs.Cell.{cell_line_of, IsCell}
 use Rattle.pb_layout.specs.ClientLine.{client_line_of, kept_in, LeavesReplyZero, IsReplyTo, IsRecorded, IsKept}
-use Rattle.pb_layout.specs.Header.{IsHeader, header_line_of, IsHeaderLine, named_header, word}
+use Rattle.pb_layout.specs.Shape.{IsHeader}
+use Rattle.pb_layout.specs.Header.{header_line_of, IsHeaderLine, named_header, word}
 use Rattle.pb_layout.specs.declared.header.Header.{Header}
 use Rattle.pb_layout.proofs.Decided.{Decided, decided_by, decided_both, decided_either, decided_if, decided_eq, decided_lt, decided_le, decided_all, decided_option, decided_contains, decided_line}
 use Rattle.pb_layout.proofs.OneStanding.{kind_of_code-code, same_kind}

@@ -1,4 +1,4 @@
--- A client's line in a record: its last recorded request, with the reply.
+-- The line of one slot of a client in a record: a recorded request, with the reply.
 use Rattle.std.specs.Prelude.{◌≡◌, ◌⊎◌, ℕ, ◌<◌, ◌≤◌, IsSomeAnd, Contains}
 use Rattle.pb_pmem.specs.declared.line.Line.{Line}
 use Rattle.pb_pmem.specs.Lines.{line_of}
@@ -24,7 +24,7 @@ kept_in line = record {
   reply = record { code = word line 5; value = word line 6; extra = word line 7 };
 }
 
--- the numbers of a reply behind the first so many are 0
+-- the numbers of a reply after the first so many are 0
 pub record LeavesReplyZero (used : ℕ) (reply : Reply) : Type 0 where
   pub value : used < 1 → reply.value ≡ 0
   pub extra : used < 2 → reply.extra ≡ 0

@@ -7,8 +7,8 @@ use Rattle.pb_object.specs.declared.kind.Kind.TheVariants.{Map, Stack, Heap, Que
 use Rattle.pb_object.specs.ObjectLines.{IsAllowedLine, IsFirstRefused}
 use Rattle.pb_object.specs.Standing.{side_count}
 use Rattle.pb_layout.specs.Cell.{IsCell}
-use Rattle.pb_layout.specs.Header.{IsHeaderLine, named_header, word}
-use Rattle.pb_layout.specs.Record.{count_line_of, IsRecord, IsBadRecordAt}
+use Rattle.pb_layout.specs.Header.{IsHeaderLine, named_header, slot_count, word}
+use Rattle.pb_layout.specs.Record.{count_line_of, IsFirstWithout, IsRecord, IsBadRecordAt}
 use Rattle.pb_layout.specs.Region.{record_place, cell_place}
 use Rattle.pb_layout.specs.Represents.{record_in_use, object_parts, IsApart, AreApart}
 use Rattle.pb_layout.specs.declared.header.Header.{Header}
@@ -29,12 +29,6 @@ abbrev pub IsFirstNamed : List Check → ℕ → Type 0
 IsFirstNamed [] line = ⊥
 IsFirstNamed (check ∷ checks) line = check.refuses line ⊎ (check.passes × IsFirstNamed checks line)
 
--- place is the first below count where this doesn't hold
-pub record IsFirstWithout (Holds : ℕ → Type 0) (count place : ℕ) : Type 0 where
-  pub within : place < count
-  pub before : (earlier : ℕ) → earlier < place → Holds earlier
-  pub refused : ¬ Holds place
-
 -- what the lines say of themselves: the header, the rounds of a side, its record in use, and the object's lines
 abbrev pub header_in : List Line → Header
 header_in image = named_header (line_at image 0)
@@ -48,19 +42,19 @@ record_in image side = record_in_use image (header_in image) side (round_in imag
 abbrev pub object_lines_in : List Line → List Line
 object_lines_in image = object_parts (header_in image) (record_in image)
 
--- the line at which a side's record in use begins, and the line of a client in it
+-- the line at which a side's record in use begins, and the line of a slot in it
 abbrev pub record_place_in : List Line → ℕ → ℕ
 record_place_in image side = record_place (header_in image) side (round_in image side % 2)
 
-abbrev pub client_place_in : List Line → ℕ → ℕ → ℕ
-client_place_in image side client = record_place_in image side + 1 + client
+abbrev pub slot_place_in : List Line → ℕ → ℕ → ℕ
+slot_place_in image side place = record_place_in image side + 1 + place
 
 -- the line of an object line: a queue has one on each side
 abbrev pub object_place_by : Kind → List Line → ℕ → ℕ
-object_place_by Map image place = client_place_in image 0 (header_in image).clients + place
-object_place_by Stack image place = client_place_in image 0 (header_in image).clients + place
-object_place_by Heap image place = client_place_in image 0 (header_in image).clients + place
-object_place_by Queue image place = client_place_in image place (header_in image).clients
+object_place_by Map image place = slot_place_in image 0 (slot_count (header_in image)) + place
+object_place_by Stack image place = slot_place_in image 0 (slot_count (header_in image)) + place
+object_place_by Heap image place = slot_place_in image 0 (slot_count (header_in image)) + place
+object_place_by Queue image place = slot_place_in image place (slot_count (header_in image))
 
 -- line 0 spells a header
 abbrev pub header_check : List Line → Check
@@ -74,7 +68,7 @@ pub record IsRoundLine (kind : Kind) (side : ℕ) (line : Line) : Type 0 where
   pub count : line ≡ count_line_of (word line 0)
   pub no_side : side_count kind ≤ side → word line 0 ≡ 0
 
--- the line behind the header, and then the next, counts a side's rounds
+-- the line after the header, and then the next, counts a side's rounds
 abbrev pub round_check : List Line → ℕ → Check
 round_check image side = record {
   passes = IsRoundLine (header_in image).kind side (line_at image (1 + side));
@@ -99,7 +93,7 @@ object_check image = record {
 abbrev pub apart_check : List Line → Check
 apart_check image = record {
   passes = AreApart (header_in image) (record_in image);
-  refuses = λ line. ((header_in image).kind ≡ Queue) × ((client : ℕ) × (line ≡ client_place_in image 1 client) × IsFirstWithout (IsApart (record_in image)) (header_in image).clients client);
+  refuses = λ line. ((header_in image).kind ≡ Queue) × ((place : ℕ) × (line ≡ slot_place_in image 1 place) × IsFirstWithout (IsApart (record_in image)) (slot_count (header_in image)) place);
 }
 
 -- how many items were taken from a queue, and how many wait
@@ -124,7 +118,7 @@ cell_check image = record {
 abbrev pub opening_checks : List Line → List Check
 opening_checks image = header_check image ∷ round_check image 0 ∷ round_check image 1 ∷ record_check image 0 ∷ record_check image 1 ∷ []
 
--- the checks of what the records stand for
+-- the checks of what the records represent
 abbrev pub state_checks : List Line → List Check
 state_checks image = object_check image ∷ apart_check image ∷ cell_check image ∷ []
 

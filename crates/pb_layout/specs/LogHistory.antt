@@ -1,5 +1,5 @@
 -- The history that a log tells: the rounds that it recorded, and which of them are sealed against a crash.
-use Rattle.std.specs.Prelude.{◌≡◌, ℕ, zero, suc, ◌+◌, ◌-◌, Bool, true, false, ◌&&◌, ◌||◌, ◌==◌, List, [], ◌∷◌, ◌++◌, map, take, drop, if◌then◌else◌}
+use Rattle.std.specs.Prelude.{◌≡◌, ℕ, zero, suc, ◌+◌, ◌-◌, Bool, true, false, ◌&&◌, ◌||◌, ◌==◌, nat_le, List, [], ◌∷◌, ◌++◌, map, take, drop, if◌then◌else◌}
 use Rattle.pb_pmem.specs.declared.line.Line.{Line}
 use Rattle.pb_pmem.specs.declared.log.LogOp.{LogOp}
 use Rattle.pb_pmem.specs.declared.log.LogOp.TheVariants.{Whole, Word, Back, Fence, Sync}
@@ -7,12 +7,13 @@ use Rattle.pb_pmem.specs.Contents.{applied, contents}
 use Rattle.pb_pmem.specs.Crash.{is_back_of}
 use Rattle.pb_pmem.specs.Lines.{word_of}
 use Rattle.pb_object.specs.History.{Entry, Round, History}
+use Rattle.pb_object.specs.Standing.{side_count}
 use Rattle.pb_layout.specs.ClientLine.{kept_in}
 use Rattle.pb_layout.specs.Damage.{header_in}
 use Rattle.pb_layout.specs.Record.{client_line_at}
 use Rattle.pb_layout.specs.Represents.{record_in_use}
 
--- a round that a log recorded: whether its index line was given to the device since, and whether a sync stands behind that
+-- a round that a log recorded: whether its index line was given to the device since, and whether a sync stands after that
 pub record LoggedRound : Type 0 where
   pub round : Round
   pub backed : Bool
@@ -34,7 +35,7 @@ abbrev pub AreUnsealed : List LoggedRound → Type 0
 AreUnsealed [] = Unit {0}
 AreUnsealed (logged ∷ rounds) = (logged.sealed ≡ false) × AreUnsealed rounds
 
--- a client's number in a record, and the entry that its line there tells
+-- a client's newest number in a record, and the entry that its slot 0 there tells
 abbrev pub number_in : List Line → ℕ → ℕ
 number_in record_lines client = (kept_in (client_line_at record_lines client)).number
 
@@ -48,9 +49,9 @@ entry_in record_lines client = record {
 
 -- the entries of those of the first clients whose numbers two records differ in, as the second record tells them, in rising order
 unfoldable pub entries_between : List Line → List Line → ℕ → List Entry
-entries_between before behind zero = []
-entries_between before behind (suc client) =
-    entries_between before behind client ++ (if number_in before client == number_in behind client then [] else entry_in behind client ∷ [])
+entries_between before after zero = []
+entries_between before after (suc client) =
+    entries_between before after client ++ (if number_in before client == number_in after client then [] else entry_in after client ∷ [])
 
 -- the round that an index word of a side puts into force: what the record of its parity says that the other one doesn't
 abbrev pub round_at : List Line → ℕ → ℕ → Round
@@ -59,9 +60,13 @@ round_at lines side index = record {
   entries = entries_between (record_in_use lines (header_in lines) side (index + 1)) (record_in_use lines (header_in lines) side index) (header_in lines).clients;
 }
 
--- a word is an index word that raises its side's round number by one: word 0 of line 1 or 2
+-- how many sides the region has
+abbrev pub sides_in : List Line → ℕ
+sides_in lines = side_count (header_in lines).kind
+
+-- a word is an index word that raises its side's round number by one: word 0 of line 1, or of line 2 where there are two sides
 abbrev pub raises_index : List Line → ℕ → ℕ → ℕ → Bool
-raises_index lines line word to = (line == 1 || line == 2) && (word == 0) && (to == word_of lines line 0 + 1)
+raises_index lines line word to = nat_le 1 line && nat_le line (sides_in lines) && (word == 0) && (to == word_of lines line 0 + 1)
 
 -- a `Back` of a round's index line marks it, and a `Sync` seals what is marked
 abbrev pub backed_by : ℕ → ℕ → LoggedRound → LoggedRound
@@ -70,7 +75,7 @@ backed_by first count logged = record logged { backed = logged.backed || is_back
 abbrev pub sealed_by_sync : LoggedRound → LoggedRound
 sealed_by_sync logged = record logged { sealed = logged.sealed || logged.backed }
 
--- the rounds behind one more operation, over lines that hold this
+-- the rounds after one more operation, over lines that hold this
 abbrev pub recorded_by_op : LogOp → List Line → List LoggedRound → List LoggedRound
 recorded_by_op (Whole line to) lines rounds = rounds
 recorded_by_op (Word line word to) lines rounds =
@@ -79,11 +84,11 @@ recorded_by_op (Back first count) lines rounds = map (backed_by first count) rou
 recorded_by_op Fence lines rounds = rounds
 recorded_by_op Sync lines rounds = map sealed_by_sync rounds
 
--- the rounds behind these and a log, over lines that hold this
-unfoldable pub history_behind : List Line → List LoggedRound → List LogOp → List LoggedRound
-history_behind lines rounds [] = rounds
-history_behind lines rounds (op ∷ log) = history_behind (applied op lines) (recorded_by_op op lines rounds) log
+-- the rounds after these and a log, over lines that hold this
+unfoldable pub history_after : List Line → List LoggedRound → List LogOp → List LoggedRound
+history_after lines rounds [] = rounds
+history_after lines rounds (op ∷ log) = history_after (applied op lines) (recorded_by_op op lines rounds) log
 
--- the history that a log tells behind its first `from` operations
+-- the history that a log tells after its first `from` operations
 abbrev pub history_of : List Line → List LogOp → ℕ → List LoggedRound
-history_of base log from = history_behind (contents base (take from log)) [] (drop from log)
+history_of base log from = history_after (contents base (take from log)) [] (drop from log)

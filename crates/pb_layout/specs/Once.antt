@@ -2,7 +2,7 @@
 use Rattle.std.specs.Prelude.{◌≡◌, ℕ, List, [], ◌∷◌, ◌++◌, Some, slice_get, sum_by}
 use Rattle.pb_object.specs.declared.request.Kept.{Kept}
 use Rattle.pb_object.specs.History.{Entry, History}
-use Rattle.pb_object.specs.Standing.{Standing}
+use Rattle.pb_object.specs.Standing.{Standing, newest}
 
 -- all entries of a history, in their order
 unfoldable pub entries_of : History → List Entry
@@ -19,9 +19,9 @@ HasNumbersOnce history =
     → first.number ≡ second.number
     → a ≡ b
 
--- the sum of the clients' last numbers
-abbrev pub number_of : Kept → ℕ
-number_of kept = kept.number
+-- the newest number of kept requests, and the sum of all clients'
+abbrev pub number_of : List Kept → ℕ
+number_of kept = (newest kept).number
 
 abbrev pub numbers_of : Standing → ℕ
 numbers_of s = sum_by number_of s.kept

@@ -4,22 +4,22 @@ use Rattle.pb_pmem.specs.declared.line.Line.{Line}
 use Rattle.pb_pmem.specs.declared.log.LogOp.{LogOp}
 use Rattle.pb_pmem.specs.declared.log.LogOp.TheVariants.{Whole, Word, Back, Fence, Sync}
 use Rattle.pb_pmem.specs.Contents.{contents}
-use Rattle.pb_pmem.specs.Crash.{IsLeft}
+use Rattle.pb_pmem.specs.Crash.{IsCrashImage}
 use Rattle.pb_object.specs.History.{Round, IsLegalRound, after_round}
 use Rattle.pb_object.specs.Standing.{Standing, rounds_of, empty_standing}
 use Rattle.pb_layout.specs.Damage.{HasRegion}
-use Rattle.pb_layout.specs.Represents.{Represents}
+use Rattle.pb_layout.specs.Recovered.{Represents}
 use Rattle.pb_layout.specs.declared.header.TheConstants.{MAGIC}
 
--- what lines stand for: a standing, or nothing where there is no region
-abbrev pub StandsFor : List Line → Option Standing → Type 0
-StandsFor image None = ¬ HasRegion image
-StandsFor image (Some s) = Represents image s
+-- what lines represent: a standing, or nothing where there is no region
+abbrev pub ImageRepresents : List Line → Option Standing → Type 0
+ImageRepresents image None = ¬ HasRegion image
+ImageRepresents image (Some s) = Represents image s
 
 -- one of these
-abbrev pub StandsForOne : List Line → List (Option Standing) → Type 0
-StandsForOne image [] = ⊥
-StandsForOne image (member ∷ members) = StandsFor image member ⊎ StandsForOne image members
+abbrev pub ImageRepresentsOne : List Line → List (Option Standing) → Type 0
+ImageRepresentsOne image [] = ⊥
+ImageRepresentsOne image (member ∷ members) = ImageRepresents image member ⊎ ImageRepresentsOne image members
 
 -- a standing among these of which this holds
 abbrev pub HasStanding : (Standing → Type 0) → List (Option Standing) → Type 0
@@ -51,8 +51,8 @@ AreMembers (Some s ∷ None ∷ []) = ⊥
 AreMembers (None ∷ None ∷ []) = ⊥
 AreMembers (first ∷ second ∷ third ∷ members) = ⊥
 
--- the device stands for one of these, and a crash leaves one of these, also behind whatever is allowed to be done to it
+-- the device represents one of these, and a crash leaves one of these, also after whatever is allowed to be done to it
 pub record IsReady (base : List Line) (log : List LogOp) (members : List (Option Standing)) : Type 0 where
   pub shape : AreMembers members
-  pub holds : StandsForOne (contents base log) members
-  pub images : (more : List LogOp) → All (IsAllowed members) more → (image : List Line) → IsLeft base (log ++ more) image → StandsForOne image members
+  pub holds : ImageRepresentsOne (contents base log) members
+  pub images : (more : List LogOp) → All (IsAllowed members) more → (image : List Line) → IsCrashImage base (log ++ more) image → ImageRepresentsOne image members

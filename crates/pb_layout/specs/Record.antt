@@ -1,10 +1,12 @@
--- A record: the line of its round, a line for each client, and the object's lines of one side.
-use Rattle.std.specs.Prelude.{◌≡◌, ◌≢◌, ◌⊎◌, ℕ, ◌+◌, ◌<◌, ◌≤◌, List, length, take, drop, sum_by}
+-- A record: the line of its round, the slots of the clients, and the object's lines of one side.
+use Rattle.std.specs.Prelude.{◌≡◌, ◌≢◌, ◌⊎◌, ℕ, zero, suc, ◌+◌, ◌*◌, ◌%◌, ◌<◌, ◌≤◌, ◌==◌, List, [], ◌∷◌, if◌then◌else◌}
 use Rattle.pb_pmem.specs.declared.line.Line.{Line}
 use Rattle.pb_pmem.specs.Lines.{line_of, line_at}
 use Rattle.pb_object.specs.declared.kind.Kind.{Kind}
+use Rattle.pb_object.specs.declared.request.Kept.{Kept}
+use Rattle.pb_object.specs.declared.request.TheConstants.{KEPT_REQUESTS, LAST_NUMBER}
 use Rattle.pb_layout.specs.ClientLine.{kept_in, IsKept}
-use Rattle.pb_layout.specs.Header.{word}
+use Rattle.pb_layout.specs.Header.{slot_count, word}
 use Rattle.pb_layout.specs.declared.fault.LayoutFault.{LayoutFault}
 use Rattle.pb_layout.specs.declared.fault.LayoutFault.TheVariants.{NoMagic, BadHeader, BadRecord}
 use Rattle.pb_layout.specs.declared.header.Header.{Header}
@@ -17,57 +19,87 @@ count_line_of count = line_of count 0 0 0 0 0 0 0
 abbrev pub IsClientLine : Kind → ℕ → Line → Type 0
 IsClientLine kind side line = IsKept kind side (kept_in line)
 
--- the line of a client in a record
+-- the line of a client's slot in a record; its slot 0 has its newest request
+abbrev pub slot_line_at : List Line → ℕ → ℕ → Line
+slot_line_at lines client slot = line_at lines (1 + (KEPT_REQUESTS * client + slot))
+
 abbrev pub client_line_at : List Line → ℕ → Line
-client_line_at lines client = line_at lines (1 + client)
+client_line_at lines client = slot_line_at lines client 0
 
--- the sum of the clients' numbers in a record
-abbrev pub number_sum : Header → List Line → ℕ
-number_sum head lines = sum_by (λ line. word line 0) (take head.clients (drop 1 lines))
+-- the requests in so many lines from a line on; a slot with number 0 is empty
+unfoldable pub kept_from : List Line → ℕ → ℕ → List Kept
+kept_from lines first zero = []
+kept_from lines first (suc count) =
+    if word (line_at lines first) 0 == 0 then kept_from lines (suc first) count else kept_in (line_at lines first) ∷ kept_from lines (suc first) count
 
--- lines that carry this round, whose client lines the format allows; each round recorded a request, so there are at most so many rounds
+-- the requests in a client's slots, the newest first
+abbrev pub kept_in_slots : List Line → ℕ → List Kept
+kept_in_slots lines client = kept_from lines (1 + KEPT_REQUESTS * client) KEPT_REQUESTS
+
+-- the sum of the newest numbers of the first so many clients
+unfoldable pub number_sum : List Line → ℕ → ℕ
+number_sum lines zero = 0
+number_sum lines (suc client) = number_sum lines client + word (client_line_at lines client) 0
+
+-- the slots stand one after the other, counted from 0, after the record's first line
+abbrev pub slot_at : List Line → ℕ → Line
+slot_at lines place = line_at lines (1 + place)
+
+-- the number in a slot is below that in the client's slot before it, where the slot isn't empty
+abbrev pub Falls : List Line → ℕ → Type 0
+Falls lines place = place % KEPT_REQUESTS ≢ 0 → word (slot_at lines place) 0 ≢ 0 → word (slot_at lines place) 0 < word (line_at lines place) 0
+
+-- a slot that the format allows
+pub record IsSlot (kind : Kind) (side : ℕ) (lines : List Line) (place : ℕ) : Type 0 where
+  pub allowed : IsClientLine kind side (slot_at lines place)
+  pub falls : Falls lines place
+
+-- the first so many slots are allowed
+abbrev pub AreSlots : Kind → ℕ → List Line → ℕ → Type 0
+AreSlots kind side lines count = (place : ℕ) → place < count → IsSlot kind side lines place
+
+-- the newest numbers of the first so many clients are numbers that a request can have, or 0
+abbrev pub AreSmall : List Line → ℕ → Type 0
+AreSmall lines clients = (client : ℕ) → client < clients → word (client_line_at lines client) 0 ≤ LAST_NUMBER
+
+-- place is the first below count where this doesn't hold
+pub record IsFirstWithout (Holds : ℕ → Type 0) (count place : ℕ) : Type 0 where
+  pub within : place < count
+  pub before : (earlier : ℕ) → earlier < place → Holds earlier
+  pub refused : ¬ Holds place
+
+-- lines that carry this round, whose slots the format allows; each round recorded a request, so there are at most so many rounds
 pub record IsRecord (head : Header) (side round : ℕ) (lines : List Line) : Type 0 where
   pub carries : line_at lines 0 ≡ count_line_of round
-  pub clients : (client : ℕ) → client < head.clients → IsClientLine head.kind side (client_line_at lines client)
-  pub rounds : round ≤ number_sum head lines
+  pub slots : AreSlots head.kind side lines (slot_count head)
+  pub rounds : round ≤ number_sum lines head.clients
 
 -- the first line of a record doesn't carry the round
 pub record HasBadRound (round : ℕ) (lines : List Line) (line : ℕ) : Type 0 where
   pub place : line ≡ 0
   pub refused : line_at lines 0 ≢ count_line_of round
 
--- the first client line that the format refuses, in a record that carries the round
-pub record HasBadClient (head : Header) (side round : ℕ) (lines : List Line) (line : ℕ) : Type 0 where
-  pub some : 0 < line
-  pub place : line ≤ head.clients
+-- the first slot that the format refuses, in a record that carries the round
+pub record HasBadSlot (head : Header) (side round : ℕ) (lines : List Line) (line : ℕ) : Type 0 where
   pub carries : line_at lines 0 ≡ count_line_of round
-  pub before : (client : ℕ) → 1 + client < line → IsClientLine head.kind side (client_line_at lines client)
-  pub refused : ¬ IsClientLine head.kind side (line_at lines line)
+  pub slot : ℕ
+  pub place : line ≡ 1 + slot
+  pub first : IsFirstWithout (IsSlot head.kind side lines) (slot_count head) slot
 
--- all lines are allowed, but there are more rounds than requests: that is the first line's fault
+-- all slots are allowed, but there are more rounds than requests: that is the first line's fault
 pub record HasManyRounds (head : Header) (side round : ℕ) (lines : List Line) (line : ℕ) : Type 0 where
   pub place : line ≡ 0
   pub carries : line_at lines 0 ≡ count_line_of round
-  pub clients : (client : ℕ) → client < head.clients → IsClientLine head.kind side (client_line_at lines client)
-  pub refused : number_sum head lines < round
+  pub slots : AreSlots head.kind side lines (slot_count head)
+  pub refused : number_sum lines head.clients < round
 
 -- the first line of a record that the format refuses, counted within the record
 abbrev pub IsBadRecordAt : Header → ℕ → ℕ → List Line → ℕ → Type 0
 IsBadRecordAt head side round lines line =
-    HasBadRound round lines line ⊎ (HasBadClient head side round lines line ⊎ HasManyRounds head side round lines line)
+    HasBadRound round lines line ⊎ (HasBadSlot head side round lines line ⊎ HasManyRounds head side round lines line)
 
 -- what is wrong with lines that are no record
 abbrev pub IsRecordFault : Header → ℕ → ℕ → List Line → LayoutFault → Type 0
 IsRecordFault head side round lines NoMagic = ⊥
 IsRecordFault head side round lines (BadHeader place) = ⊥
 IsRecordFault head side round lines (BadRecord line) = IsBadRecordAt head side round lines line
-
--- the first so many of these lines are client lines that the format allows
-abbrev pub AreClientLines : Kind → ℕ → List Line → ℕ → Type 0
-AreClientLines kind side lines count = (client : ℕ) → client < count → IsClientLine kind side (line_at lines client)
-
--- the first of these lines that is no client line
-pub record IsFirstBadLine (kind : Kind) (side : ℕ) (lines : List Line) (place : ℕ) : Type 0 where
-  pub within : place < length lines
-  pub before : AreClientLines kind side lines place
-  pub refused : ¬ IsClientLine kind side (line_at lines place)

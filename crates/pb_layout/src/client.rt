@@ -1,4 +1,4 @@
-//! A client's line: its last recorded request, with the reply.
+//! The line of one slot of a client: a recorded request, with the reply.
 ghost use Rattle.std.specs.Prelude.{◌≡◌, ◌↔◌, IsTrue};
 ghost use Rattle.std.specs.Option.{SomeIff};
 ghost use Rattle.pb_object.specs.History.{IsOfSide};
@@ -7,7 +7,7 @@ ghost use Rattle.pb_layout.specs.ClientLine.{client_line_of, kept_in, IsReplyTo,
 use pb_object::{Action, Answer, Kept, Kind, LAST_NUMBER, Op, Reply, is_operation};
 use pb_pmem::Line;
 
-/// The line of a client's last recorded request: number, operation and reply. Number 0 means that there is none.
+/// The line of a slot that holds this request: number, operation and reply. Number 0 means that the slot is empty.
 pub fn client_line(kept: &Kept) -> Line
     ensures { result ≡ client_line_of kept.now }
 {
@@ -34,8 +34,20 @@ pub fn client_line(kept: &Kept) -> Line
 pub fn client_of(kind: Kind, side: u32, line: &Line) -> Option<Kept>
     ensures { SomeIff result (IsKept kind side (kept_in line.now)) (kept_in line.now) }
 {
+    let kept = kept_of_line(line);
+    if is_kept(kind, side, &kept) {
+        Some(kept)
+    } else {
+        None
+    }
+}
+
+/// The request that a client's line spells, whether or not the format allows it.
+pub fn kept_of_line(line: &Line) -> Kept
+    ensures { result ≡ kept_in line.now }
+{
     let words = &line.words;
-    let kept = Kept {
+    Kept {
         number: words[0],
         op: Op {
             code: words[1],
@@ -48,11 +60,6 @@ pub fn client_of(kind: Kind, side: u32, line: &Line) -> Option<Kept>
             value: words[6],
             extra: words[7],
         },
-    };
-    if is_kept(kind, side, &kept) {
-        Some(kept)
-    } else {
-        None
     }
 }
 

@@ -7,12 +7,12 @@ ghost use Rattle.pb_pmem.specs.Crash.{IsAtRest};
 ghost use Rattle.pb_object.specs.History.{History, IsLegal, state_after};
 ghost use Rattle.pb_object.specs.Standing.{Standing};
 ghost use Rattle.pb_layout.specs.ClientLine.{IsKept};
-ghost use Rattle.pb_layout.specs.Header.{IsHeader};
-ghost use Rattle.pb_layout.specs.Laws.{RepresentsOne, HasOneAnswer};
+ghost use Rattle.pb_layout.specs.Shape.{IsHeader};
+ghost use Rattle.pb_layout.specs.Laws.{RepresentsOne, HasOneRecovery};
 ghost use Rattle.pb_layout.specs.LogHistory.{history_of};
 ghost use Rattle.pb_layout.specs.Once.{HasNumbersOnce, numbers_of};
-ghost use Rattle.pb_layout.specs.Ready.{StandsFor, IsAllowed, IsReady};
-ghost use Rattle.pb_layout.specs.Told.{TellsByPlaces};
+ghost use Rattle.pb_layout.specs.Ready.{ImageRepresents, IsAllowed, IsReady};
+ghost use Rattle.pb_layout.specs.HistoryByPlaces.{TellsByPlaces};
 
 use crate::cells::{cell, cell_of};
 use crate::client::{client_line, client_of};
@@ -23,7 +23,6 @@ use pb_pmem::{LINES, Line};
 
 /// A header's line is read as that header.
 pub fn header_again(head: &Header) -> Result<Header, LayoutFault>
-    requires { IsHeader head.now }
     ensures { result ≡ Ok head.now }
 {
     header_of(&header_line(head))
@@ -49,10 +48,10 @@ pub fn one_standing(image: &[Line])
     ensures { RepresentsOne image.now }
 {}
 
-/// Of a device's lines exactly one holds: there is no region, or it is damaged at one line, or it represents a standing.
-pub fn one_answer(image: &[Line])
+/// What a device holds is a function of its lines: there is no region, or it is damaged at one line, or it represents one standing.
+pub fn one_recovery(image: &[Line])
     requires { length image.now ≡ LINES }
-    ensures { HasOneAnswer image.now }
+    ensures { HasOneRecovery image.now }
 {}
 
 /// The history of a log is the one that its places tell: a round for each index word that raises its side's round number.
@@ -62,11 +61,11 @@ pub fn history_by_places()
         → TellsByPlaces base log from (history_of base log from) }
 {}
 
-/// A device at rest is ready with what it stands for, alone.
+/// A device at rest is ready with what it represents, alone.
 pub fn at_rest_is_ready()
     ensures { (base : List Line) (log : List LogOp) (member : Option Standing)
         → IsAtRest base log
-        → StandsFor (contents base log) member
+        → ImageRepresents (contents base log) member
         → IsReady base log (member ∷ []) }
 {}
 

@@ -1,31 +1,52 @@
 //! Where the parts of a region stand on the device.
 ghost use Rattle.std.specs.Prelude.{◌≡◌, ◌<◌};
 ghost use Rattle.pb_object.specs.declared.kind.Kind.TheVariants.{Queue};
+ghost use Rattle.pb_object.specs.ObjectLines.{object_line_count};
 ghost use Rattle.pb_object.specs.Standing.{side_count};
-ghost use Rattle.pb_layout.specs.Header.{IsHeader, record_length, first_record_line};
+ghost use Rattle.pb_layout.specs.Shape.{IsHeader};
+ghost use Rattle.pb_layout.specs.Header.{record_length, old_record_length, first_record_line, old_first_record_line};
 ghost use Rattle.pb_layout.specs.Region.{record_place, cell_place};
 
 use crate::header::Header;
-use pb_object::Kind;
+use pb_object::{KEPT_REQUESTS, Kind};
 
-/// How many lines a record has: its round, a line for each client, and the object's lines of one side.
+/// How many lines a record has: its round, eight slots for each client, and the object's lines of one side.
 pub fn record_len(head: &Header) -> u32
-    requires { IsHeader head.now }
-    ensures { result ≡ record_length head.now }
+    ensures length { result ≡ record_length head.now }
+    ensures valid { IsHeader head.now }
 {
-    let object = match head.kind {
+    1 + KEPT_REQUESTS * head.clients + object_lines(head)
+}
+
+/// How many lines a record of the first version of the format has: it has one line for each client.
+pub fn old_record_len(head: &Header) -> u32
+    ensures { result ≡ old_record_length head.now }
+{
+    1 + head.clients + object_lines(head)
+}
+
+/// How many object lines a record has.
+fn object_lines(head: &Header) -> u32
+    ensures { result ≡ object_line_count head.now.kind head.now.size }
+{
+    match head.kind {
         Kind::Map => (head.size + 3) / 4,
         Kind::Stack => (head.size + 7) / 8 + 1,
         Kind::Heap => (head.size + 7) / 8 + 1,
         Kind::Queue => 1,
-    };
-    1 + head.clients + object
+    }
 }
 
-/// The line at which the records begin: behind the header and the round numbers, and behind a queue's cells.
+/// The line at which the records begin: after those of the first version, two for each side, whose lines aren't looked at.
 pub fn first_record(head: &Header) -> u32
-    requires { IsHeader head.now }
     ensures { result ≡ first_record_line head.now }
+{
+    old_first_record(head) + 2 * sides(head.kind) * old_record_len(head)
+}
+
+/// The line at which the records of the first version begin: after the header and the round numbers, and after a queue's cells.
+pub fn old_first_record(head: &Header) -> u32
+    ensures { result ≡ old_first_record_line head.now }
 {
     match head.kind {
         Kind::Map => 3,
@@ -35,9 +56,20 @@ pub fn first_record(head: &Header) -> u32
     }
 }
 
+/// How many sides an object has: a queue's puts and takes have records of their own.
+fn sides(kind: Kind) -> u32
+    ensures { result ≡ side_count kind }
+{
+    match kind {
+        Kind::Map => 1,
+        Kind::Stack => 1,
+        Kind::Heap => 1,
+        Kind::Queue => 2,
+    }
+}
+
 /// The device's line at which a record begins. A side has two records, of which the round number's parity says the one in use.
 pub fn record_line(head: &Header, side: u32, which: u32) -> u32
-    requires header { IsHeader head.now }
     requires side { side < side_count head.now.kind }
     requires which { which < 2 }
     ensures { result ≡ record_place head.now side which }
@@ -47,8 +79,7 @@ pub fn record_line(head: &Header, side: u32, which: u32) -> u32
 
 /// The device's line that holds the cell of a queue's position. Positions that are a size apart share a cell.
 pub fn cell_line(head: &Header, position: u64) -> u32
-    requires header { IsHeader head.now }
-    requires queue { head.now.kind ≡ Queue }
+    requires { head.now.kind ≡ Queue }
     ensures { result ≡ cell_place head.now position }
 {
     3 + (position % u64::from(head.size)) as u32

@@ -1,5 +1,5 @@
--- A fresh region with its magic stands for the empty object.
-use Rattle.std.proofs.Common.{◌≡◌, ◌≢◌, ℕ, zero, suc, ◌+◌, ◌<◌, List, replicate, take, drop, slice_index, ap, subst, sym, refl, ◌∙◌, inl, inr, arith}
+-- A fresh region with its magic represents the empty object.
+use Rattle.std.proofs.Common.{◌≡◌, ◌≢◌, ℕ, zero, suc, ◌+◌, ◌*◌, ◌<◌, List, [], replicate, take, drop, slice_index, ap, subst, sym, refl, ◌∙◌, inl, inr, arith}
 use Rattle.std.proofs.lemmas.Bool.{cases_lt}
 use Rattle.std.proofs.lemmas.List.{length-replicate, get_or-replicate, get_or_past}
 use Rattle.pb_pmem.specs.declared.line.Line.{Line}
@@ -12,22 +12,25 @@ use Rattle.pb_object.specs.declared.request.Kept.{Kept}
 use Rattle.pb_object.specs.Map.{empty_register}
 use Rattle.pb_object.specs.Object.{start_state}
 use Rattle.pb_object.specs.ObjectLines.{kind_of, size_of}
-use Rattle.pb_object.specs.Request.{none_kept}
+use Rattle.pb_object.specs.declared.request.TheConstants.{KEPT_REQUESTS}
 use Rattle.pb_object.specs.Standing.{side_count, rounds_of}
 use Rattle.pb_layout.specs.ClientLine.{kept_in, IsKept}
-use Rattle.pb_layout.specs.Header.{IsHeader, record_length, header_line_of}
-use Rattle.pb_layout.specs.Record.{count_line_of, client_line_at, IsRecord}
+use Rattle.pb_layout.specs.Shape.{IsHeader}
+use Rattle.pb_layout.specs.Header.{record_length, header_line_of, word}
+use Rattle.pb_layout.specs.Record.{count_line_of, kept_in_slots, IsRecord}
 use Rattle.pb_layout.specs.Region.{record_place}
-use Rattle.pb_layout.specs.Represents.{record_in_use, record_of_side, later_kept, last_kept_by, AreApart, HoldCells, Represents}
+use Rattle.pb_layout.specs.Represents.{record_in_use, record_of_side, newest_of_two, kept_list_by, AreApart, CellsRepresent}
+use Rattle.pb_layout.specs.Recovered.{Represents}
 use Rattle.pb_layout.specs.declared.header.Header.{Header}
 use Rattle.pb_layout.proofs.OneStanding.{few_sides}
 use Rattle.pb_layout.proofs.Records.{piece_is}
-use Rattle.pb_layout.proofs.Turn.{represents_from_records}
-use Rattle.pb_layout_laws.specs.Exits.{IsEmptyRecord, AreEmptyRecords, records_of, empty_for}
+use Rattle.pb_layout.proofs.ChangedRegion.{represents_from_records}
+use Rattle.pb_layout.specs.Exits.{IsEmptyRecord, AreEmptyRecords, records_of, empty_for}
 use Rattle.pb_layout_laws.proofs.Images.{image_of, line_in, line_in-is, line_at-image_of, length-image_of}
-use Rattle.pb_layout_laws.proofs.Laid.{HasLaid, IsFreshLine, Formed}
-use Rattle.pb_layout.proofs.OneAnswer.{record_fits}
-use Rattle.pb_layout_laws.proofs.Laying.{IsLaidIn}
+use Rattle.pb_layout_laws.proofs.WrittenRegion.{HasWritten, IsFreshLine, Formed}
+use Rattle.pb_layout.proofs.OneRecovery.{from_parts, record_fits}
+use Rattle.pb_layout.proofs.SlotLemmas.{kept_from-empty, slots_fall}
+use Rattle.pb_layout_laws.proofs.WritingRegion.{IsWrittenIn}
 
 -- The empty standing
 
@@ -51,7 +54,7 @@ start_size Stack size = refl
 start_size Heap size = refl
 start_size Queue size = refl
 
-start_cells : (kind : Kind) (size : ℕ) (image : List Line) (head : Header) → HoldCells image head (start_state kind size)
+start_cells : (kind : Kind) (size : ℕ) (image : List Line) (head : Header) → CellsRepresent image head (start_state kind size)
 start_cells Map size image head = tt
 start_cells Stack size image head = tt
 start_cells Heap size image head = tt
@@ -64,32 +67,45 @@ empty_record head first second empty zero here = empty.first_record
 empty_record head first second empty (suc zero) here = empty.second_record here
 empty_record head first second empty (suc (suc side)) here = absurd (omega (arith, here, few_sides head.kind))
 
-own_record : (head : Header) (side : ℕ) (lines : List Line) → IsEmptyRecord head lines → IsRecord head side 0 lines
+pub own_record : (head : Header) (side : ℕ) (lines : List Line) → IsEmptyRecord head lines → IsRecord head side 0 lines
 own_record head side lines empty = record {
   carries = empty.round;
-  clients = λ client inside. subst (λ (l : Line). IsKept head.kind side (kept_in l)) (sym (empty.clients client inside)) (inl refl);
+  slots = λ place inside. record {
+    allowed = subst (λ (l : Line). IsKept head.kind side (kept_in l)) (sym (empty.slots place inside)) (inl refl);
+    falls = λ other some. absurd (some (ap (λ (l : Line). word l 0) (empty.slots place inside)));
+  };
   rounds = omega arith;
 }
 
-no_kept : (head : Header) (lines : List Line) (client : ℕ) → IsEmptyRecord head lines → client < head.clients → kept_in (client_line_at lines client) ≡ none_kept
-no_kept head lines client empty inside = ap kept_in (empty.clients client inside)
+-- no request is kept in empty slots
+pub no_kept : (head : Header) (lines : List Line) (client : ℕ) → IsEmptyRecord head lines → client < head.clients → kept_in_slots lines client ≡ []
+no_kept head lines client empty inside =
+    kept_from-empty lines (1 + KEPT_REQUESTS * client) KEPT_REQUESTS (slots_fall head 0 lines client (own_record head 0 lines empty).slots inside) first
+  where
+    at : 1 + KEPT_REQUESTS * client ≡ 1 + (KEPT_REQUESTS * client + 0)
+    at = omega arith
 
-last_none : (kind : Kind) (records : ℕ → List Line) (client : ℕ) → ((side : ℕ) → side < side_count kind → kept_in (client_line_at (records side) client) ≡ none_kept) → last_kept_by kind records client ≡ none_kept
+    first : word (line_at lines (1 + KEPT_REQUESTS * client)) 0 ≡ 0
+    first =
+        ap (λ (n : ℕ). word (line_at lines n) 0) at ∙ ap (λ (l : Line). word l 0) (empty.slots (KEPT_REQUESTS * client + 0) (omega (arith, inside)))
+
+last_none : (kind : Kind) (records : ℕ → List Line) (client : ℕ) → ((side : ℕ) → side < side_count kind → kept_in_slots (records side) client ≡ []) → kept_list_by kind records client ≡ []
+unfolding newest_of_two
 last_none Map records client none = none 0 (omega arith)
 last_none Stack records client none = none 0 (omega arith)
 last_none Heap records client none = none 0 (omega arith)
 last_none Queue records client none =
     let first = none 0 (omega arith) in
     let second = none 1 (omega arith) in
-    λ i. later_kept (first i) (second i)
+    λ i. newest_of_two KEPT_REQUESTS (first i) (second i)
 
 -- The region
 
-laid_line : (head : Header) (lines : List Line) (words : Words) (line : ℕ) → HasLaid head lines words → IsFreshLine head line → line ≢ 0 → line_in words line ≡ line_at lines line
+laid_line : (head : Header) (lines : List Line) (words : Words) (line : ℕ) → HasWritten head lines words → IsFreshLine head line → line ≢ 0 → line_in words line ≡ line_at lines line
 laid_line head lines words line laid here other =
     line_in-is words line (line_at lines line) (λ word few. laid line word here (λ e. absurd (other e)))
 
-header_line_is : (head : Header) (first second lines : List Line) (words : Words) → IsLaidIn head first second lines → Formed head lines words → line_in words 0 ≡ header_line_of head
+header_line_is : (head : Header) (first second lines : List Line) (words : Words) → IsWrittenIn head first second lines → Formed head lines words → line_in words 0 ≡ header_line_of head
 header_line_is head first second lines words is formed = line_in-is words 0 (header_line_of head) at
   where
     at : (word : ℕ) → word < 8 → words 0 word ≡ slice_index (header_line_of head).words word
@@ -97,10 +113,10 @@ header_line_is head first second lines words is formed = line_in-is words 0 (hea
     at (suc word) few =
         formed.1 0 (suc word) (inl (omega arith)) (λ _. λ e. omega (arith, e)) ∙ is.header (suc word) (omega arith) few
 
--- a fresh region, as lines, stands for the empty object
-pub formed_stands : (head : Header) (first second lines : List Line) (count : ℕ) (words : Words) → IsHeader head → AreEmptyRecords head first second → IsLaidIn head first second lines → count ≡ LINES → Formed head lines words → Represents (image_of count words) (empty_for head)
+-- a fresh region, as lines, represents the empty object
+pub formed_stands : (head : Header) (first second lines : List Line) (count : ℕ) (words : Words) → IsHeader head → AreEmptyRecords head first second → IsWrittenIn head first second lines → count ≡ LINES → Formed head lines words → Represents (image_of count words) (empty_for head)
 formed_stands head first second lines count words valid empty is long formed =
-    represents_from_records image (empty_for head) records (record {
+    from_parts image (empty_for head) (length-image_of count words ∙ long) (represents_from_records image (empty_for head) records (record {
       valid = valid;
       header = line_at-image_of count words 0 (omega (arith, long)) ∙ header_line_is head first second lines words is formed;
       sides = length-replicate {A = ℕ} (side_count head.kind) 0;
@@ -111,10 +127,10 @@ formed_stands head first second lines count words valid empty is long formed =
       size = start_size head.kind head.size;
       state = empty.state;
       cells = start_cells head.kind head.size image head;
-      clients = length-replicate head.clients none_kept;
+      clients = length-replicate {A = List Kept} head.clients [];
       apart = apart;
-      kept = λ client inside. get_or-replicate head.clients client none_kept none_kept inside ∙ sym (last_none head.kind records client (λ side here. no_kept head (records side) client (empty_record head first second empty side here) inside));
-    })
+      kept = λ client inside. get_or-replicate {A = List Kept} head.clients client [] [] inside ∙ sym (last_none head.kind records client (λ side here. no_kept head (records side) client (empty_record head first second empty side here) inside));
+    }))
   where
     image : List Line
     image = image_of count words
@@ -143,5 +159,5 @@ formed_stands head first second lines count words valid empty is long formed =
         ap (λ (n : ℕ). record_in_use image head side n) (no_rounds head side) ∙ (ap (λ (n : ℕ). take n (drop (record_place head side 0) image)) (sym long_record) ∙ piece_is image (records side) (record_place head side 0) (omega (arith, long_record, fits, length-image_of count words, long)) (λ place inside. line_at-image_of count words (record_place head side 0 + place) (omega (arith, inside, long_record, fits, long)) ∙ laid_record side here place (omega (arith, inside, long_record))))
 
     apart : AreApart head records
-    apart queue client inside some =
-        absurd (some (ap (λ (k : Kept). k.number) (no_kept head (records 1) client (empty_record head first second empty 1 (omega (arith, ap side_count queue))) inside)))
+    apart queue place inside some =
+        absurd (some (ap (λ (l : Line). word l 0) ((empty_record head first second empty 1 (omega (arith, ap side_count queue))).slots place inside)))

@@ -7,30 +7,30 @@ use Rattle.pb_pmem.specs.declared.line.Line.{Line}
 use Rattle.pb_pmem.specs.declared.log.LogOp.{LogOp}
 use Rattle.pb_pmem.specs.declared.log.LogOp.TheVariants.{Whole, Word, Back, Fence, Sync}
 use Rattle.pb_pmem.specs.Contents.{contents}
-use Rattle.pb_pmem.specs.Crash.{IsLeft}
+use Rattle.pb_pmem.specs.Crash.{IsCrashImage}
 use Rattle.pb_pmem.specs.Lines.{word_of}
 use Rattle.pb_pmem.specs.Past.{Words, Leaves, DiffersBy, Bounds}
-use Rattle.pb_pmem.proofs.Agree.{Leaves-IsLeft}
+use Rattle.pb_pmem.proofs.Agree.{Leaves-IsCrashImage}
 use Rattle.pb_pmem.proofs.Bounds.{Bounds-write, Bounds-Back, Bounds-Fence, Bounds-Sync, Bounds-weaker}
-use Rattle.pb_pmem.proofs.Held.{Leaves-Held, Leaves-Last}
-use Rattle.pb_pmem.proofs.Rest.{IsLeft-contents}
+use Rattle.pb_pmem.proofs.AtNextMark.{Leaves-AtNextMark, Leaves-Last}
+use Rattle.pb_pmem.proofs.CrashLaws.{IsCrashImage-contents}
 use Rattle.pb_pmem.proofs.Words.{reverse-cons}
 use Rattle.pb_object.specs.Standing.{Standing}
-use Rattle.pb_layout.specs.Ready.{StandsForOne, HasStanding, IsSettlingWord, IsAllowed, AreMembers, IsReady}
+use Rattle.pb_layout.specs.Ready.{ImageRepresentsOne, HasStanding, IsSettlingWord, IsAllowed, AreMembers, IsReady}
 use Rattle.pb_layout_laws.proofs.Images.{image_of, image_of-word_of, left_image}
 
--- an image, said in words, that stands for one of these
+-- an image, said in words, that represents one of these
 abbrev pub IsOneOf : List Line → List (Option Standing) → Words → Type 0
-IsOneOf base members words = StandsForOne (image_of (length base) words) members
+IsOneOf base members words = ImageRepresentsOne (image_of (length base) words) members
 
--- each image of a ready device stands for a member
+-- each image of a ready device represents a member
 pub ready_bounds : (base : List Line) (log : List LogOp) (members : List (Option Standing)) → IsReady base log members → Bounds base (reverse log) (IsOneOf base members) (IsOneOf base members) (IsOneOf base members)
 ready_bounds base log members ready =
-    let all : (words : Words) → Leaves base (reverse log) words → IsOneOf base members words = λ words leaves. ready.images [] (All-nil (IsAllowed members)) (image_of (length base) words) (subst (λ (l : List LogOp). IsLeft base l (image_of (length base) words)) (sym (append-nil log)) (left_image base log words leaves)) in
+    let all : (words : Words) → Leaves base (reverse log) words → IsOneOf base members words = λ words leaves. ready.images [] (All-nil (IsAllowed members)) (image_of (length base) words) (subst (λ (l : List LogOp). IsCrashImage base l (image_of (length base) words)) (sym (append-nil log)) (left_image base log words leaves)) in
     record {
       all = all;
       last = λ words last. all words (Leaves-Last base (reverse log) words last);
-      held = λ words held. all words (Leaves-Held base (reverse log) words held);
+      at_next_mark = λ words at_next_mark. all words (Leaves-AtNextMark base (reverse log) words at_next_mark);
     }
 
 -- words that settling may write for a member lead from E to E
@@ -65,18 +65,18 @@ pub record Enters (base : List Line) (log : List LogOp) (members : List (Option 
 pub ready_from_bounds : (base : List Line) (log : List LogOp) (members : List (Option Standing)) → Enters base log members → IsReady base log members
 ready_from_bounds base log members enters =
     let M = IsOneOf base members in
-    let images : (more : List LogOp) → All (IsAllowed members) more → (image : List Line) → IsLeft base (log ++ more) image → StandsForOne image members =
+    let images : (more : List LogOp) → All (IsAllowed members) more → (image : List Line) → IsCrashImage base (log ++ more) image → ImageRepresentsOne image members =
     λ more allowed image left.
     let bounds = allowed_bounds (reverse log) members M enters.settled enters.inside enters.keeps more allowed enters.bounds in
-    let leaves = subst (λ (l : List LogOp). Leaves base l (word_of image)) (reverse-append log more) (Leaves-IsLeft base (log ++ more) image left) in
-    subst (λ (i : List Line). StandsForOne i members) (ap (λ (n : ℕ). image_of n (word_of image)) (sym left.left.lines) ∙ image_of-word_of image) (bounds.all (word_of image) leaves) in
+    let leaves = subst (λ (l : List LogOp). Leaves base l (word_of image)) (reverse-append log more) (Leaves-IsCrashImage base (log ++ more) image left) in
+    subst (λ (i : List Line). ImageRepresentsOne i members) (ap (λ (n : ℕ). image_of n (word_of image)) (sym left.left.lines) ∙ image_of-word_of image) (bounds.all (word_of image) leaves) in
     record {
       shape = enters.shape;
-      holds = images [] (All-nil (IsAllowed members)) (contents base log) (subst (λ (l : List LogOp). IsLeft base l (contents base log)) (sym (append-nil log)) (IsLeft-contents base log));
+      holds = images [] (All-nil (IsAllowed members)) (contents base log) (subst (λ (l : List LogOp). IsCrashImage base l (contents base log)) (sym (append-nil log)) (IsCrashImage-contents base log));
       images = images;
     }
 
--- each image that is left stands for what the bounds say
-pub image_from_bounds : {base : List Line} {A T S : Words → Type 0} (log : List LogOp) (P : List Line → Type 0) → Bounds base (reverse log) A T S → ((words : Words) → A words → P (image_of (length base) words)) → (image : List Line) → IsLeft base log image → P image
+-- each image that is left represents what the bounds say
+pub image_from_bounds : {base : List Line} {A T S : Words → Type 0} (log : List LogOp) (P : List Line → Type 0) → Bounds base (reverse log) A T S → ((words : Words) → A words → P (image_of (length base) words)) → (image : List Line) → IsCrashImage base log image → P image
 image_from_bounds {base} log P bounds holds image left =
-    subst P (ap (λ (n : ℕ). image_of n (word_of image)) (sym left.left.lines) ∙ image_of-word_of image) (holds (word_of image) (bounds.all (word_of image) (Leaves-IsLeft base log image left)))
+    subst P (ap (λ (n : ℕ). image_of n (word_of image)) (sym left.left.lines) ∙ image_of-word_of image) (holds (word_of image) (bounds.all (word_of image) (Leaves-IsCrashImage base log image left)))

@@ -11,34 +11,35 @@ use Rattle.pb_pmem.specs.declared.line.TheConstants.{LINES}
 use Rattle.pb_pmem.specs.declared.log.LogOp.{LogOp}
 use Rattle.pb_pmem.specs.declared.log.LogOp.TheVariants.{Whole, Word, Back, Fence, Sync}
 use Rattle.pb_pmem.specs.Contents.{applied, contents}
-use Rattle.pb_pmem.specs.Crash.{IsLeft, is_sync, MayWrite}
-use Rattle.pb_pmem.specs.Device.{IsMark}
+use Rattle.pb_pmem.specs.Crash.{IsCrashImage, is_sync, MayWrite}
+use Rattle.pb_pmem.specs.Device.{IsMark, MayAdd}
 use Rattle.pb_pmem.specs.Lines.{word_of}
 use Rattle.pb_pmem.specs.Past.{Words, DiffersBy, Bounds}
 use Rattle.pb_pmem.proofs.Bounds.{Bounds-weaker}
 use Rattle.pb_pmem.proofs.Lines.{contents-append, contents_push, length-contents}
-use Rattle.pb_pmem.proofs.Rest.{IsLeft-contents}
+use Rattle.pb_pmem.proofs.CrashLaws.{IsCrashImage-contents}
 use Rattle.pb_object.specs.Standing.{Standing, rounds_of}
 use Rattle.pb_layout.specs.Covers.{Covers, IsCoveredBy}
 use Rattle.pb_layout.specs.Damage.{HasRegion}
-use Rattle.pb_layout.specs.Header.{IsHeader}
-use Rattle.pb_layout.specs.LogHistory.{LoggedRound, history_behind}
+use Rattle.pb_layout.specs.Shape.{IsHeader}
+use Rattle.pb_layout.specs.LogHistory.{LoggedRound, history_after}
 use Rattle.pb_layout.specs.Ready.{IsSettlingWord, IsReady}
-use Rattle.pb_layout.specs.Represents.{Represents}
+use Rattle.pb_layout.specs.Recovered.{Represents}
 use Rattle.pb_layout.specs.declared.header.Header.{Header}
 use Rattle.pb_layout.specs.declared.header.TheConstants.{MAGIC}
-use Rattle.pb_layout.proofs.LogHistories.{history_behind-append}
-use Rattle.pb_layout_laws.specs.Calls.{MayAdd, IsCutOff, preparing, appearing, formatting}
-use Rattle.pb_layout_laws.specs.Exits.{IsExit, IsExitAppearing, AreEmptyRecords, empty_for}
+use Rattle.pb_layout.proofs.LogHistories.{history_after-append}
+use Rattle.pb_pmem.specs.Operations.{IsFailedPrefix}
+use Rattle.pb_layout.specs.RegionOps.{prepare_ops, publish_ops, format_ops}
+use Rattle.pb_layout.specs.Exits.{IsExit, IsExitPublishing, AreEmptyRecords, empty_for}
 use Rattle.pb_layout_laws.proofs.EmptyRegion.{no_rounds, formed_stands}
 use Rattle.pb_layout_laws.proofs.Entering.{IsOneOf, KeepsSettled, ready_from_bounds, image_from_bounds}
-use Rattle.pb_layout_laws.proofs.Fronts.{IsCoveredFront, covers_by_fronts}
+use Rattle.pb_layout_laws.proofs.Prefixes.{IsCoveredPrefix, covers_by_prefixes}
 use Rattle.pb_layout_laws.proofs.Images.{image_of}
-use Rattle.pb_layout_laws.proofs.Laid.{HasLaid, Prepared, Formed, giving_bounds, push_three}
-use Rattle.pb_layout_laws.proofs.Laying.{laying, IsLaidIn, laid_in}
-use Rattle.pb_layout_laws.proofs.Preparing.{nothing_of_bare, bare_start, nothing_at_start, quiet_front, quiet_leaves, giving, preparing-is, preparing_quiet, laying_quiet}
+use Rattle.pb_layout_laws.proofs.WrittenRegion.{HasWritten, Prepared, Formed, giving_bounds, push_three}
+use Rattle.pb_layout_laws.proofs.WritingRegion.{laying, IsWrittenIn, laid_in}
+use Rattle.pb_layout_laws.proofs.Preparing.{nothing_of_bare, bare_start, nothing_at_start, quiet_front, quiet_leaves, giving, prepare_ops-is, preparing_quiet, laying_quiet}
 use Rattle.pb_layout_laws.proofs.Quiet.{IsQuiet, Bare, quiet-records, quiet-no_sync, quiet-bare, HasGiven, push_write, push_back, push_fence, push_sync}
-use Rattle.pb_layout_laws.proofs.Stepwise.{covered_stepwise}
+use Rattle.pb_layout_laws.proofs.OneUnsealed.{covered_stepwise}
 
 -- Where formatting may be left from its magic on
 
@@ -62,28 +63,28 @@ nth_of : (xs ys : List LogOp) (d : LogOp) (n : ℕ) → xs ≡ ys → get_or xs 
 nth_of xs ys d n e = ap (λ (l : List LogOp). get_or l n d) e
 
 -- the failed call was the first, the second or the third
-tail_of_cut : (tail front rest : List LogOp) (failed : LogOp) → appearing ≡ front ++ failed ∷ rest → (tail ≡ front) ⊎ ((op : LogOp) × MayAdd failed op × (tail ≡ front ++ op ∷ [])) → IsTail tail
+tail_of_cut : (tail prefix rest : List LogOp) (failed : LogOp) → publish_ops ≡ prefix ++ failed ∷ rest → (tail ≡ prefix) ⊎ ((op : LogOp) × MayAdd failed op × (tail ≡ prefix ++ op ∷ [])) → IsTail tail
 tail_of_cut tail [] rest failed whole (inl e) = inl e
 tail_of_cut tail [] rest failed whole (inr (op, may, e)) =
-    let same : magic_word ≡ failed = nth_of appearing (failed ∷ rest) failed 0 whole in
+    let same : magic_word ≡ failed = nth_of publish_ops (failed ∷ rest) failed 0 whole in
     let added : op ≡ magic_word = subst (λ (f : LogOp). MayAdd f op) (sym same) may in
     inr ([], inl refl, e ∙ ap (λ (o : LogOp). o ∷ []) added)
 tail_of_cut tail (a ∷ []) rest failed whole (inl e) =
-    let one : magic_word ≡ a = nth_of appearing (a ∷ failed ∷ rest) failed 0 whole in
+    let one : magic_word ≡ a = nth_of publish_ops (a ∷ failed ∷ rest) failed 0 whole in
     inr ([], inl refl, e ∙ ap (λ (o : LogOp). o ∷ []) (sym one))
 tail_of_cut tail (a ∷ []) rest failed whole (inr (op, may, e)) =
-    let one : magic_word ≡ a = nth_of appearing (a ∷ failed ∷ rest) failed 0 whole in
-    let same : magic_back ≡ failed = nth_of appearing (a ∷ failed ∷ rest) failed 1 whole in
+    let one : magic_word ≡ a = nth_of publish_ops (a ∷ failed ∷ rest) failed 0 whole in
+    let same : magic_back ≡ failed = nth_of publish_ops (a ∷ failed ∷ rest) failed 1 whole in
     let added : op ≡ magic_back = subst (λ (f : LogOp). MayAdd f op) (sym same) may in
     inr (op ∷ [], inr (inl (ap (λ (o : LogOp). o ∷ []) added)), e ∙ ap (λ (o : LogOp). o ∷ op ∷ []) (sym one))
 tail_of_cut tail (a ∷ b ∷ []) rest failed whole (inl e) =
-    let one : magic_word ≡ a = nth_of appearing (a ∷ b ∷ failed ∷ rest) failed 0 whole in
-    let two : magic_back ≡ b = nth_of appearing (a ∷ b ∷ failed ∷ rest) failed 1 whole in
+    let one : magic_word ≡ a = nth_of publish_ops (a ∷ b ∷ failed ∷ rest) failed 0 whole in
+    let two : magic_back ≡ b = nth_of publish_ops (a ∷ b ∷ failed ∷ rest) failed 1 whole in
     inr (b ∷ [], inr (inl (ap (λ (o : LogOp). o ∷ []) (sym two))), e ∙ ap (λ (o : LogOp). o ∷ b ∷ []) (sym one))
 tail_of_cut tail (a ∷ b ∷ []) rest failed whole (inr (op, may, e)) =
-    let one : magic_word ≡ a = nth_of appearing (a ∷ b ∷ failed ∷ rest) failed 0 whole in
-    let two : magic_back ≡ b = nth_of appearing (a ∷ b ∷ failed ∷ rest) failed 1 whole in
-    let same : Sync ≡ failed = nth_of appearing (a ∷ b ∷ failed ∷ rest) failed 2 whole in
+    let one : magic_word ≡ a = nth_of publish_ops (a ∷ b ∷ failed ∷ rest) failed 0 whole in
+    let two : magic_back ≡ b = nth_of publish_ops (a ∷ b ∷ failed ∷ rest) failed 1 whole in
+    let same : Sync ≡ failed = nth_of publish_ops (a ∷ b ∷ failed ∷ rest) failed 2 whole in
     inr (b ∷ op ∷ [], inr (inr (mark op two (subst (λ (f : LogOp). MayAdd f op) (sym same) may))), e ∙ ap (λ (o : LogOp). o ∷ b ∷ op ∷ []) (sym one))
   where
     mark : (op : LogOp) → magic_back ≡ b → IsMark op → (b ∷ op ∷ [] ≡ magic_back ∷ Fence ∷ []) ⊎ (b ∷ op ∷ [] ≡ magic_back ∷ Sync ∷ [])
@@ -92,12 +93,12 @@ tail_of_cut tail (a ∷ b ∷ []) rest failed whole (inr (op, may, e)) =
     mark (Back first count) two is = absurd is
     mark Fence two is = inl (ap (λ (o : LogOp). o ∷ Fence ∷ []) (sym two))
     mark Sync two is = inr (ap (λ (o : LogOp). o ∷ Sync ∷ []) (sym two))
-tail_of_cut tail (a ∷ b ∷ c ∷ front) rest failed whole added =
-    absurd (omega (arith, ap length whole, length-append front (failed ∷ rest)))
+tail_of_cut tail (a ∷ b ∷ c ∷ prefix) rest failed whole added =
+    absurd (omega (arith, ap length whole, length-append prefix (failed ∷ rest)))
 
 -- appearing that is cut off is such a tail
-pub cut_off-tail : (tail : List LogOp) → IsCutOff appearing tail → IsTail tail
-cut_off-tail tail cut = tail_of_cut tail cut.front cut.rest cut.failed cut.whole cut.added
+pub cut_off-tail : (tail : List LogOp) → IsFailedPrefix publish_ops tail → IsTail tail
+cut_off-tail tail cut = tail_of_cut tail cut.prefix cut.rest cut.failed cut.whole cut.added
 
 -- What is known of the images
 
@@ -118,7 +119,7 @@ pub record Appears (before image : Words) : Type 0 where
   pub others : (line word : ℕ) → (line ≡ 0 → word ≢ 0) → image line word ≡ before line word
   pub first : (image 0 0 ≡ before 0 0) ⊎ (image 0 0 ≡ MAGIC)
 
-appears_laid : (head : Header) (lines : List Line) (before image : Words) → Appears before image → HasLaid head lines before → HasLaid head lines image
+appears_laid : (head : Header) (lines : List Line) (before image : Words) → Appears before image → HasWritten head lines before → HasWritten head lines image
 appears_laid head lines before image appears laid line word here other =
     appears.others line word other ∙ laid line word here other
 
@@ -140,7 +141,7 @@ appears_either head lines before image appears (inl prepared) = first appears.fi
         inl ((λ is. prepared.0 (sym same ∙ is)), appears_laid head lines before image appears prepared.1)
     first (inr is) = inr (is, appears_laid head lines before image appears prepared.1)
 
--- so it is behind a write of the magic
+-- so it is after a write of the magic
 magic_appears : (before image : Words) → DiffersBy magic_word before image → Appears before image
 magic_appears before image differs = record { others = others; first = first (differs 0 0) }
   where
@@ -155,8 +156,8 @@ magic_appears before image differs = record { others = others; first = first (di
     first (inl same) = inl same
     first (inr written) = inr (sym written.2)
 
--- and behind each word that settling may write for the empty object
-zero_appears : (head : Header) (first second lines : List Line) (line to : ℕ) (before image : Words) → (line ≡ 1) ⊎ (line ≡ 2) → to ≡ 0 → IsLaidIn head first second lines → HasLaid head lines before → DiffersBy (Word line 0 to) before image → Appears before image
+-- and after each word that settling may write for the empty object
+zero_appears : (head : Header) (first second lines : List Line) (line to : ℕ) (before image : Words) → (line ≡ 1) ⊎ (line ≡ 2) → to ≡ 0 → IsWrittenIn head first second lines → HasWritten head lines before → DiffersBy (Word line 0 to) before image → Appears before image
 zero_appears head first second lines line to before image which is_zero is laid differs = record { others = others; first = inl (others_at 0 0 (differs 0 0)) }
   where
     zeros : (line ≡ 1) ⊎ (line ≡ 2) → before line 0 ≡ 0
@@ -173,9 +174,9 @@ zero_appears head first second lines line to before image which is_zero is laid 
     others : (at word : ℕ) → (at ≡ 0 → word ≢ 0) → image at word ≡ before at word
     others at word other = others_at at word (differs at word)
 
-settling_appears : (head : Header) (first second lines : List Line) (line word to : ℕ) (before image : Words) → IsSettlingWord line word to (empty_for head) → IsLaidIn head first second lines → HasLaid head lines before → DiffersBy (Word line word to) before image → Appears before image
-settling_appears head first second lines line word to before image settling is laid differs =
-    go settling.1 (subst (λ (w : ℕ). DiffersBy (Word line w to) before image) settling.0 differs)
+settling_appears : (head : Header) (first second lines : List Line) (line word to : ℕ) (before image : Words) → IsSettlingWord line word to (empty_for head) → IsWrittenIn head first second lines → HasWritten head lines before → DiffersBy (Word line word to) before image → Appears before image
+settling_appears head first second lines line word to before image settle_ops is laid differs =
+    go settle_ops.1 (subst (λ (w : ℕ). DiffersBy (Word line w to) before image) settle_ops.0 differs)
   where
     go : ((line ≡ 0) × (to ≡ MAGIC)) ⊎ (((line ≡ 1) × (to ≡ rounds_of (empty_for head) 0)) ⊎ ((line ≡ 2) × (to ≡ rounds_of (empty_for head) 1))) → DiffersBy (Word line 0 to) before image → Appears before image
     go (inl (at, value)) d =
@@ -185,7 +186,7 @@ settling_appears head first second lines line word to before image settling is l
     go (inr (inr (at, value))) d =
         zero_appears head first second lines line to before image (inr at) (value ∙ no_rounds head 1) is laid d
 
--- Behind the magic
+-- After the magic
 
 -- what formatting is asked for
 pub record IsFormatting (base : List Line) (log : List LogOp) (head : Header) (first second : List Line) : Type 0 where
@@ -198,19 +199,19 @@ pub record IsFormatting (base : List Line) (log : List LogOp) (head : Header) (f
 abbrev pub fresh_lines : List Line → List LogOp → Header → List Line → List Line → List Line
 fresh_lines base log head first second = contents base (log ++ laying head first second)
 
-fresh_laid : (base : List Line) (log : List LogOp) (head : Header) (first second : List Line) → IsFormatting base log head first second → IsLaidIn head first second (fresh_lines base log head first second)
+fresh_laid : (base : List Line) (log : List LogOp) (head : Header) (first second : List Line) → IsFormatting base log head first second → IsWrittenIn head first second (fresh_lines base log head first second)
 fresh_laid base log head first second is =
-    subst (IsLaidIn head first second) (sym (contents-append base log (laying head first second))) (laid_in head first second (contents base log) is.valid is.empty (length-contents base log ∙ is.long))
+    subst (IsWrittenIn head first second) (sym (contents-append base log (laying head first second))) (laid_in head first second (contents base log) is.valid is.empty (length-contents base log ∙ is.long))
 
 some_lines : (base : List Line) → length base ≡ LINES → 0 < length base
 some_lines base long = omega (arith, long)
 
--- the region is prepared behind its fence
-pub prepared_bounds : (base : List Line) (log : List LogOp) (head : Header) (first second : List Line) → IsFormatting base log head first second → Bounds base (reverse (log ++ preparing head first second)) Bare (Prepared head (fresh_lines base log head first second)) (Prepared head (fresh_lines base log head first second))
+-- the region is prepared after its fence
+pub prepared_bounds : (base : List Line) (log : List LogOp) (head : Header) (first second : List Line) → IsFormatting base log head first second → Bounds base (reverse (log ++ prepare_ops head first second)) Bare (Prepared head (fresh_lines base log head first second)) (Prepared head (fresh_lines base log head first second))
 prepared_bounds base log head first second is =
     let lines : List Line = fresh_lines base log head first second in
     let bare = quiet-bare log (laying head first second) (laying_quiet head first second) (bare_start base log (some_lines base is.long) is.ready) in
-    subst (λ (l : List LogOp). Bounds base (reverse l) Bare (Prepared head lines) (Prepared head lines)) (append_assoc log (laying head first second) (giving head) ∙ ap (λ (l : List LogOp). log ++ l) (sym (preparing-is head first second))) (giving_bounds (log ++ laying head first second) head bare)
+    subst (λ (l : List LogOp). Bounds base (reverse l) Bare (Prepared head lines) (Prepared head lines)) (append_assoc log (laying head first second) (giving head) ∙ ap (λ (l : List LogOp). log ++ l) (sym (prepare_ops-is head first second))) (giving_bounds (log ++ laying head first second) head bare)
 
 magic_in : (lines : List Line) → 0 < length lines → word_of (applied magic_word lines) 0 0 ≡ MAGIC
 magic_in [] some = absurd (omega arith)
@@ -224,7 +225,7 @@ rest_writes_nothing lines rest (inr (inl e)) = ap (contents lines) e
 rest_writes_nothing lines rest (inr (inr (inl e))) = ap (contents lines) e
 rest_writes_nothing lines rest (inr (inr (inr e))) = ap (contents lines) e
 
--- behind a log with the magic there is a region
+-- after a log with the magic there is a region
 magic_there : (base : List Line) (log rest : List LogOp) → 0 < length base → IsRest rest → HasRegion (contents base (log ++ magic_word ∷ rest))
 magic_there base log rest some is =
     ap (λ (l : List Line). word_of l 0 0) (ap (contents base) (sym (append_assoc log (magic_word ∷ []) rest)) ∙ (contents-append base (log ++ magic_word ∷ []) rest ∙ (rest_writes_nothing (contents base (log ++ magic_word ∷ [])) rest is ∙ contents_push base log magic_word))) ∙ magic_in (contents base log) (omega (arith, some, length-contents base log))
@@ -242,7 +243,7 @@ given_bounds {base} log head lines some bounds =
         absurd (prepared.0 (given 0 0 (omega arith) (omega arith) ∙ magic_there base log [] some (inl refl)))
     with_magic words (inr formed) given = formed
 
--- behind the magic and what follows it
+-- after the magic and what follows it
 pub rest_bounds : {base : List Line} (log rest : List LogOp) (head : Header) (lines : List Line) → 0 < length base → IsRest rest → Bounds base (reverse log) Bare (Prepared head lines) (Prepared head lines) → Bounds base (reverse (log ++ magic_word ∷ rest)) (BareOrFormed head lines) (PreparedOrFormed head lines) (PreparedOrFormed head lines)
 rest_bounds {base} log rest head lines some is bounds = go is
   where
@@ -259,28 +260,28 @@ rest_bounds {base} log rest head lines some is bounds = go is
     go (inr (inr (inr e))) =
         subst (λ (r : List LogOp). Known (log ++ magic_word ∷ r)) (sym e) (subst Known (push_three log magic_word magic_back Sync) (Bounds-weaker (BareOrFormed head lines) (PreparedOrFormed head lines) (PreparedOrFormed head lines) (push_sync ((log ++ magic_word ∷ []) ++ magic_back ∷ []) (given_bounds log head lines some bounds)) (λ w f. inr f) (λ w f. inr f) (λ w f. inr f)))
 
--- behind the sync the region is there
-pub appeared_bounds : {base : List Line} (log : List LogOp) (head : Header) (lines : List Line) → 0 < length base → Bounds base (reverse log) Bare (Prepared head lines) (Prepared head lines) → Bounds base (reverse (log ++ appearing)) (Formed head lines) (Formed head lines) (Formed head lines)
+-- after the sync the region is there
+pub appeared_bounds : {base : List Line} (log : List LogOp) (head : Header) (lines : List Line) → 0 < length base → Bounds base (reverse log) Bare (Prepared head lines) (Prepared head lines) → Bounds base (reverse (log ++ publish_ops)) (Formed head lines) (Formed head lines) (Formed head lines)
 appeared_bounds {base} log head lines some bounds =
     subst (λ (l : List LogOp). Bounds base (reverse l) (Formed head lines) (Formed head lines) (Formed head lines)) (push_three log magic_word magic_back Sync) (push_sync ((log ++ magic_word ∷ []) ++ magic_back ∷ []) (given_bounds log head lines some bounds))
 
 -- Covering
 
-tail_records : (lines : List Line) (tail : List LogOp) → IsTail tail → history_behind lines [] tail ≡ []
-unfolding history_behind
-tail_records lines tail (inl e) = ap (history_behind lines []) e
-tail_records lines tail (inr (rest, is, e)) = ap (history_behind lines []) e ∙ go is
+tail_records : (lines : List Line) (tail : List LogOp) → IsTail tail → history_after lines [] tail ≡ []
+unfolding history_after
+tail_records lines tail (inl e) = ap (history_after lines []) e
+tail_records lines tail (inr (rest, is, e)) = ap (history_after lines []) e ∙ go is
   where
-    go : IsRest rest → history_behind lines [] (magic_word ∷ rest) ≡ []
-    go (inl e) = ap (λ (r : List LogOp). history_behind lines [] (magic_word ∷ r)) e
-    go (inr (inl e)) = ap (λ (r : List LogOp). history_behind lines [] (magic_word ∷ r)) e
-    go (inr (inr (inl e))) = ap (λ (r : List LogOp). history_behind lines [] (magic_word ∷ r)) e
-    go (inr (inr (inr e))) = ap (λ (r : List LogOp). history_behind lines [] (magic_word ∷ r)) e
+    go : IsRest rest → history_after lines [] (magic_word ∷ rest) ≡ []
+    go (inl e) = ap (λ (r : List LogOp). history_after lines [] (magic_word ∷ r)) e
+    go (inr (inl e)) = ap (λ (r : List LogOp). history_after lines [] (magic_word ∷ r)) e
+    go (inr (inr (inl e))) = ap (λ (r : List LogOp). history_after lines [] (magic_word ∷ r)) e
+    go (inr (inr (inr e))) = ap (λ (r : List LogOp). history_after lines [] (magic_word ∷ r)) e
 
 -- formatting records no round
-format_records : (lines : List Line) (head : Header) (first second : List Line) (tail : List LogOp) → IsTail tail → history_behind lines [] (preparing head first second ++ tail) ≡ []
+format_records : (lines : List Line) (head : Header) (first second : List Line) (tail : List LogOp) → IsTail tail → history_after lines [] (prepare_ops head first second ++ tail) ≡ []
 format_records lines head first second tail is =
-    history_behind-append lines [] (preparing head first second) tail ∙ (ap (λ (h : List LoggedRound). history_behind (contents lines (preparing head first second)) h tail) (quiet-records lines (preparing head first second) (preparing_quiet head first second)) ∙ tail_records (contents lines (preparing head first second)) tail is)
+    history_after-append lines [] (prepare_ops head first second) tail ∙ (ap (λ (h : List LoggedRound). history_after (contents lines (prepare_ops head first second)) h tail) (quiet-records lines (prepare_ops head first second) (preparing_quiet head first second)) ∙ tail_records (contents lines (prepare_ops head first second)) tail is)
 
 rest_taken : (count : ℕ) (rest : List LogOp) → IsRest rest → IsRest (take count rest)
 rest_taken zero rest is = inl refl
@@ -315,18 +316,18 @@ none_or_empty base log head first second is words (inl bare) =
 none_or_empty base log head first second is words (inr formed) =
     inr (formed_image base log head first second is words formed)
 
--- each image behind the magic has no region, or is that of the empty object
-rest_images : (base : List Line) (log : List LogOp) (head : Header) (first second : List Line) (rest : List LogOp) → IsFormatting base log head first second → IsRest rest → (image : List Line) → IsLeft base ((log ++ preparing head first second) ++ magic_word ∷ rest) image → NoneOrEmpty head image
+-- each image after the magic has no region, or is that of the empty object
+rest_images : (base : List Line) (log : List LogOp) (head : Header) (first second : List Line) (rest : List LogOp) → IsFormatting base log head first second → IsRest rest → (image : List Line) → IsCrashImage base ((log ++ prepare_ops head first second) ++ magic_word ∷ rest) image → NoneOrEmpty head image
 rest_images base log head first second rest is follows =
-    image_from_bounds ((log ++ preparing head first second) ++ magic_word ∷ rest) (NoneOrEmpty head) (rest_bounds (log ++ preparing head first second) rest head (fresh_lines base log head first second) (some_lines base is.long) follows (prepared_bounds base log head first second is)) (none_or_empty base log head first second is)
+    image_from_bounds ((log ++ prepare_ops head first second) ++ magic_word ∷ rest) (NoneOrEmpty head) (rest_bounds (log ++ prepare_ops head first second) rest head (fresh_lines base log head first second) (some_lines base is.long) follows (prepared_bounds base log head first second is)) (none_or_empty base log head first second is)
 
--- behind the sync each is that of the empty object
-appeared_images : (base : List Line) (log : List LogOp) (head : Header) (first second : List Line) → IsFormatting base log head first second → (image : List Line) → IsLeft base ((log ++ preparing head first second) ++ appearing) image → Represents image (empty_for head)
+-- after the sync each is that of the empty object
+appeared_images : (base : List Line) (log : List LogOp) (head : Header) (first second : List Line) → IsFormatting base log head first second → (image : List Line) → IsCrashImage base ((log ++ prepare_ops head first second) ++ publish_ops) image → Represents image (empty_for head)
 appeared_images base log head first second is =
-    image_from_bounds ((log ++ preparing head first second) ++ appearing) (λ (i : List Line). Represents i (empty_for head)) (appeared_bounds (log ++ preparing head first second) head (fresh_lines base log head first second) (some_lines base is.long) (prepared_bounds base log head first second is)) (formed_image base log head first second is)
+    image_from_bounds ((log ++ prepare_ops head first second) ++ publish_ops) (λ (i : List Line). Represents i (empty_for head)) (appeared_bounds (log ++ prepare_ops head first second) head (fresh_lines base log head first second) (some_lines base is.long) (prepared_bounds base log head first second is)) (formed_image base log head first second is)
 
 -- an image of the empty object is covered
-covered_empty : (lines image : List Line) (head : Header) (first second : List Line) (tail : List LogOp) → IsTail tail → Represents image (empty_for head) → IsCoveredBy (empty_for head) (history_behind lines [] (preparing head first second ++ tail)) image
+covered_empty : (lines image : List Line) (head : Header) (first second : List Line) (tail : List LogOp) → IsTail tail → Represents image (empty_for head) → IsCoveredBy (empty_for head) (history_after lines [] (prepare_ops head first second ++ tail)) image
 covered_empty lines image head first second tail is stands = record {
   kept = [];
   lost = [];
@@ -335,27 +336,27 @@ covered_empty lines image head first second tail is stands = record {
   stands = stands;
 }
 
--- formatting is covered front by front
-tail_front : (base : List Line) (log : List LogOp) (head : Header) (first second : List Line) (tail : List LogOp) → IsFormatting base log head first second → IsTail tail → IsCoveredFront base log (empty_for head) (preparing head first second ++ tail)
+-- formatting is covered prefix by prefix
+tail_front : (base : List Line) (log : List LogOp) (head : Header) (first second : List Line) (tail : List LogOp) → IsFormatting base log head first second → IsTail tail → IsCoveredPrefix base log (empty_for head) (prepare_ops head first second ++ tail)
 tail_front base log head first second tail is (inl e) =
-    subst (IsCoveredFront base log (empty_for head)) (sym (append-nil (preparing head first second)) ∙ ap (λ (t : List LogOp). preparing head first second ++ t) (sym e)) (quiet_front base log (preparing head first second) (empty_for head) (some_lines base is.long) is.ready (preparing_quiet head first second))
+    subst (IsCoveredPrefix base log (empty_for head)) (sym (append-nil (prepare_ops head first second)) ∙ ap (λ (t : List LogOp). prepare_ops head first second ++ t) (sym e)) (quiet_front base log (prepare_ops head first second) (empty_for head) (some_lines base is.long) is.ready (preparing_quiet head first second))
 tail_front base log head first second tail is (inr (rest, follows, e)) =
-    subst (λ (t : List LogOp). IsCoveredFront base log (empty_for head) (preparing head first second ++ t)) (sym e) (go follows)
+    subst (λ (t : List LogOp). IsCoveredPrefix base log (empty_for head) (prepare_ops head first second ++ t)) (sym e) (go follows)
   where
-    front : List LogOp
-    front = preparing head first second
+    prefix : List LogOp
+    prefix = prepare_ops head first second
 
-    left_behind : (image : List Line) (more : List LogOp) → IsLeft base (log ++ (front ++ more)) image → IsLeft base ((log ++ front) ++ more) image
-    left_behind image more left = subst (λ (l : List LogOp). IsLeft base l image) (sym (append_assoc log front more)) left
+    left_after : (image : List Line) (more : List LogOp) → IsCrashImage base (log ++ (prefix ++ more)) image → IsCrashImage base ((log ++ prefix) ++ more) image
+    left_after image more left = subst (λ (l : List LogOp). IsCrashImage base l image) (sym (append_assoc log prefix more)) left
 
-    without_sync : (rest : List LogOp) → IsRest rest → list_any is_sync (magic_word ∷ rest) ≡ false → IsCoveredFront base log (empty_for head) (front ++ magic_word ∷ rest)
+    without_sync : (rest : List LogOp) → IsRest rest → list_any is_sync (magic_word ∷ rest) ≡ false → IsCoveredPrefix base log (empty_for head) (prefix ++ magic_word ∷ rest)
     without_sync rest follows none image left =
-        elim (rest_images base log head first second rest is follows image (left_behind image (magic_word ∷ rest) left)) [
+        elim (rest_images base log head first second rest is follows image (left_after image (magic_word ∷ rest) left)) [
           | inl nothing ↦ inr (
-            list_any-append is_sync front (magic_word ∷ rest) ∙ (ap (λ (b : Bool). b || list_any is_sync (magic_word ∷ rest)) (quiet-no_sync front (preparing_quiet head first second)) ∙ none),
+            list_any-append is_sync prefix (magic_word ∷ rest) ∙ (ap (λ (b : Bool). b || list_any is_sync (magic_word ∷ rest)) (quiet-no_sync prefix (preparing_quiet head first second)) ∙ none),
             record {
               earlier = contents base log;
-              left = IsLeft-contents base log;
+              left = IsCrashImage-contents base log;
               member = None;
               stood = nothing_at_start base log is.ready;
               stands = nothing;
@@ -364,39 +365,39 @@ tail_front base log head first second tail is (inr (rest, follows, e)) =
           | inr stands ↦ inl (covered_empty (contents base log) image head first second (magic_word ∷ rest) (inr (rest, follows, refl)) stands)
         ]
 
-    with_sync : IsCoveredFront base log (empty_for head) (front ++ appearing)
+    with_sync : IsCoveredPrefix base log (empty_for head) (prefix ++ publish_ops)
     with_sync image left =
-        inl (covered_empty (contents base log) image head first second appearing (inr (magic_back ∷ Sync ∷ [], inr (inr (inr refl)), refl)) (appeared_images base log head first second is image (left_behind image appearing left)))
+        inl (covered_empty (contents base log) image head first second publish_ops (inr (magic_back ∷ Sync ∷ [], inr (inr (inr refl)), refl)) (appeared_images base log head first second is image (left_after image publish_ops left)))
 
-    go : IsRest rest → IsCoveredFront base log (empty_for head) (front ++ magic_word ∷ rest)
+    go : IsRest rest → IsCoveredPrefix base log (empty_for head) (prefix ++ magic_word ∷ rest)
     go (inl e) = without_sync rest (inl e) (ap (λ (r : List LogOp). list_any is_sync (magic_word ∷ r)) e)
     go (inr (inl e)) =
         without_sync rest (inr (inl e)) (ap (λ (r : List LogOp). list_any is_sync (magic_word ∷ r)) e)
     go (inr (inr (inl e))) =
         without_sync rest (inr (inr (inl e))) (ap (λ (r : List LogOp). list_any is_sync (magic_word ∷ r)) e)
     go (inr (inr (inr e))) =
-        subst (λ (r : List LogOp). IsCoveredFront base log (empty_for head) (front ++ magic_word ∷ r)) (sym e) with_sync
+        subst (λ (r : List LogOp). IsCoveredPrefix base log (empty_for head) (prefix ++ magic_word ∷ r)) (sym e) with_sync
 
--- behind the magic the device holds the empty object
-rest_contents : (base : List Line) (log : List LogOp) (head : Header) (first second : List Line) (rest : List LogOp) → IsFormatting base log head first second → IsRest rest → Represents (contents base (log ++ (preparing head first second ++ magic_word ∷ rest))) (empty_for head)
+-- after the magic the device holds the empty object
+rest_contents : (base : List Line) (log : List LogOp) (head : Header) (first second : List Line) (rest : List LogOp) → IsFormatting base log head first second → IsRest rest → Represents (contents base (log ++ (prepare_ops head first second ++ magic_word ∷ rest))) (empty_for head)
 rest_contents base log head first second rest is follows =
-    subst (λ (l : List LogOp). Represents (contents base l) (empty_for head)) (append_assoc log (preparing head first second) (magic_word ∷ rest)) (go (rest_images base log head first second rest is follows (contents base behind) (IsLeft-contents base behind)))
+    subst (λ (l : List LogOp). Represents (contents base l) (empty_for head)) (append_assoc log (prepare_ops head first second) (magic_word ∷ rest)) (go (rest_images base log head first second rest is follows (contents base after) (IsCrashImage-contents base after)))
   where
-    behind : List LogOp
-    behind = (log ++ preparing head first second) ++ magic_word ∷ rest
+    after : List LogOp
+    after = (log ++ prepare_ops head first second) ++ magic_word ∷ rest
 
-    go : NoneOrEmpty head (contents base behind) → Represents (contents base behind) (empty_for head)
+    go : NoneOrEmpty head (contents base after) → Represents (contents base after) (empty_for head)
     go (inl nothing) =
-        absurd (nothing (magic_there base (log ++ preparing head first second) rest (some_lines base is.long) follows))
+        absurd (nothing (magic_there base (log ++ prepare_ops head first second) rest (some_lines base is.long) follows))
     go (inr stands) = stands
 
 -- formatting from its magic on is covered
-rest_covers : (base : List Line) (log : List LogOp) (head : Header) (first second : List Line) (rest : List LogOp) → IsFormatting base log head first second → IsRest rest → Covers base (log ++ (preparing head first second ++ magic_word ∷ rest)) (length log) (empty_for head) []
+rest_covers : (base : List Line) (log : List LogOp) (head : Header) (first second : List Line) (rest : List LogOp) → IsFormatting base log head first second → IsRest rest → Covers base (log ++ (prepare_ops head first second ++ magic_word ∷ rest)) (length log) (empty_for head) []
 rest_covers base log head first second rest is follows =
-    covers_by_fronts base log (front ++ tail) (empty_for head) [] (sym (format_records (contents base log) head first second tail is_tail)) fronts (inl (rest_contents base log head first second rest is follows))
+    covers_by_prefixes base log (prefix ++ tail) (empty_for head) [] (sym (format_records (contents base log) head first second tail is_tail)) prefixes (inl (rest_contents base log head first second rest is follows))
   where
-    front : List LogOp
-    front = preparing head first second
+    prefix : List LogOp
+    prefix = prepare_ops head first second
 
     tail : List LogOp
     tail = magic_word ∷ rest
@@ -404,29 +405,29 @@ rest_covers base log head first second rest is follows =
     is_tail : IsTail tail
     is_tail = inr (rest, follows, refl)
 
-    fronts : (count : ℕ) → IsCoveredFront base log (empty_for head) (take count (front ++ tail))
-    fronts count =
-        elim (cases_lt count (length front)) [
-          | inl less ↦ subst (IsCoveredFront base log (empty_for head)) (sym (take-append-le count front tail (omega (arith, less)))) (quiet_front base log (take count front) (empty_for head) (some_lines base is.long) is.ready (All-take IsQuiet count front (preparing_quiet head first second)))
-          | inr more ↦ subst (IsCoveredFront base log (empty_for head)) (sym (behind count more)) (tail_front base log head first second (take (count - length front) tail) is (tail_taken (count - length front) tail is_tail))
+    prefixes : (count : ℕ) → IsCoveredPrefix base log (empty_for head) (take count (prefix ++ tail))
+    prefixes count =
+        elim (cases_lt count (length prefix)) [
+          | inl less ↦ subst (IsCoveredPrefix base log (empty_for head)) (sym (take-append-le count prefix tail (omega (arith, less)))) (quiet_front base log (take count prefix) (empty_for head) (some_lines base is.long) is.ready (All-take IsQuiet count prefix (preparing_quiet head first second)))
+          | inr more ↦ subst (IsCoveredPrefix base log (empty_for head)) (sym (after count more)) (tail_front base log head first second (take (count - length prefix) tail) is (tail_taken (count - length prefix) tail is_tail))
         ]
       where
-        behind : (count : ℕ) → length front ≤ count → take count (front ++ tail) ≡ front ++ take (count - length front) tail
-        behind count more =
-            let e : count ≡ length front + (count - length front) = omega (arith, more) in
-            ap (λ (n : ℕ). take n (front ++ tail)) e ∙ take-append-add front tail (count - length front)
+        after : (count : ℕ) → length prefix ≤ count → take count (prefix ++ tail) ≡ prefix ++ take (count - length prefix) tail
+        after count more =
+            let e : count ≡ length prefix + (count - length prefix) = omega (arith, more) in
+            ap (λ (n : ℕ). take n (prefix ++ tail)) e ∙ take-append-add prefix tail (count - length prefix)
 
 -- The laws
 
--- behind its magic formatting leaves no region or the empty object
-rest_leaves : (base : List Line) (log : List LogOp) (head : Header) (first second : List Line) (rest : List LogOp) → IsFormatting base log head first second → IsRest rest → IsExit base log (preparing head first second ++ magic_word ∷ rest) (empty_for head) [] (None ∷ Some (empty_for head) ∷ [])
+-- after its magic formatting leaves no region or the empty object
+rest_leaves : (base : List Line) (log : List LogOp) (head : Header) (first second : List Line) (rest : List LogOp) → IsFormatting base log head first second → IsRest rest → IsExit base log (prepare_ops head first second ++ magic_word ∷ rest) (empty_for head) [] (None ∷ Some (empty_for head) ∷ [])
 rest_leaves base log head first second rest is follows = record {
   covers = rest_covers base log head first second rest is follows;
-  stepwise = covered_stepwise (rest_covers base log head first second rest is follows) (omega arith);
-  ready = ready_from_bounds base (log ++ (preparing head first second ++ magic_word ∷ rest)) members (record {
+  one_unsealed = covered_stepwise (rest_covers base log head first second rest is follows) (omega arith);
+  ready = ready_from_bounds base (log ++ (prepare_ops head first second ++ magic_word ∷ rest)) members (record {
     shape = refl;
     settled = PreparedOrFormed head lines;
-    bounds = Bounds-weaker (IsOneOf base members) (PreparedOrFormed head lines) (PreparedOrFormed head lines) (subst (λ (l : List LogOp). Bounds base (reverse l) (BareOrFormed head lines) (PreparedOrFormed head lines) (PreparedOrFormed head lines)) (append_assoc log (preparing head first second) (magic_word ∷ rest)) (rest_bounds (log ++ preparing head first second) rest head lines (some_lines base is.long) follows (prepared_bounds base log head first second is))) one_of (λ w p. p) (λ w p. p);
+    bounds = Bounds-weaker (IsOneOf base members) (PreparedOrFormed head lines) (PreparedOrFormed head lines) (subst (λ (l : List LogOp). Bounds base (reverse l) (BareOrFormed head lines) (PreparedOrFormed head lines) (PreparedOrFormed head lines)) (append_assoc log (prepare_ops head first second) (magic_word ∷ rest)) (rest_bounds (log ++ prepare_ops head first second) rest head lines (some_lines base is.long) follows (prepared_bounds base log head first second is))) one_of (λ w p. p) (λ w p. p);
     inside = λ words either. one_of words (bare_or_formed head lines words either);
     keeps = keeps;
   });
@@ -446,41 +447,41 @@ rest_leaves base log head first second rest is follows = record {
         go (inr stands) = inr (inl stands)
 
     keeps : KeepsSettled members (PreparedOrFormed head lines)
-    keeps line word to (inl settling) before image either differs =
-        appears_either head lines before image (settling_appears head first second lines line word to before image settling (fresh_laid base log head first second is) (laid either) differs) either
+    keeps line word to (inl settle_ops) before image either differs =
+        appears_either head lines before image (settling_appears head first second lines line word to before image settle_ops (fresh_laid base log head first second is) (laid either) differs) either
       where
-        laid : PreparedOrFormed head lines before → HasLaid head lines before
+        laid : PreparedOrFormed head lines before → HasWritten head lines before
         laid (inl prepared) = prepared.1
         laid (inr formed) = formed.1
     keeps line word to (inr other) before image either differs = absurd other
 
 -- formatting that is cut off while it appears leaves no region, or the empty object where the magic was called
-pub cut_off_while_appearing : (base : List Line) (log tail : List LogOp) (head : Header) (first second : List Line) → IsHeader head → length base ≡ LINES → AreEmptyRecords head first second → IsReady base log (None ∷ []) → IsCutOff appearing tail → IsExitAppearing base log (preparing head first second ++ tail) tail head
+pub cut_off_while_appearing : (base : List Line) (log tail : List LogOp) (head : Header) (first second : List Line) → IsHeader head → length base ≡ LINES → AreEmptyRecords head first second → IsReady base log (None ∷ []) → IsFailedPrefix publish_ops tail → IsExitPublishing base log (prepare_ops head first second ++ tail) tail head
 cut_off_while_appearing base log tail head first second valid long empty ready cut = record {
-  none = λ e. subst (λ (t : List LogOp). IsExit base log (preparing head first second ++ t) (empty_for head) [] (None ∷ [])) (sym e) (subst (λ (l : List LogOp). IsExit base log l (empty_for head) [] (None ∷ [])) (sym (append-nil (preparing head first second))) (quiet_leaves base log (preparing head first second) (empty_for head) (some_lines base long) ready (preparing_quiet head first second)));
+  none = λ e. subst (λ (t : List LogOp). IsExit base log (prepare_ops head first second ++ t) (empty_for head) [] (None ∷ [])) (sym e) (subst (λ (l : List LogOp). IsExit base log l (empty_for head) [] (None ∷ [])) (sym (append-nil (prepare_ops head first second))) (quiet_leaves base log (prepare_ops head first second) (empty_for head) (some_lines base long) ready (preparing_quiet head first second)));
   some = λ other. go other (cut_off-tail tail cut);
-  holds = λ other. held other (cut_off-tail tail cut);
+  holds = λ other. at_next_mark other (cut_off-tail tail cut);
 }
   where
-    held : ¬ (tail ≡ []) → IsTail tail → Represents (contents base (log ++ (preparing head first second ++ tail))) (empty_for head)
-    held other (inl e) = absurd (other e)
-    held other (inr (rest, follows, e)) =
-        subst (λ (t : List LogOp). Represents (contents base (log ++ (preparing head first second ++ t))) (empty_for head)) (sym e) (rest_contents base log head first second rest (record { valid = valid; long = long; empty = empty; ready = ready }) follows)
+    at_next_mark : ¬ (tail ≡ []) → IsTail tail → Represents (contents base (log ++ (prepare_ops head first second ++ tail))) (empty_for head)
+    at_next_mark other (inl e) = absurd (other e)
+    at_next_mark other (inr (rest, follows, e)) =
+        subst (λ (t : List LogOp). Represents (contents base (log ++ (prepare_ops head first second ++ t))) (empty_for head)) (sym e) (rest_contents base log head first second rest (record { valid = valid; long = long; empty = empty; ready = ready }) follows)
 
-    go : ¬ (tail ≡ []) → IsTail tail → IsExit base log (preparing head first second ++ tail) (empty_for head) [] (None ∷ Some (empty_for head) ∷ [])
+    go : ¬ (tail ≡ []) → IsTail tail → IsExit base log (prepare_ops head first second ++ tail) (empty_for head) [] (None ∷ Some (empty_for head) ∷ [])
     go other (inl e) = absurd (other e)
     go other (inr (rest, follows, e)) =
-        subst (λ (t : List LogOp). IsExit base log (preparing head first second ++ t) (empty_for head) [] (None ∷ Some (empty_for head) ∷ [])) (sym e) (rest_leaves base log head first second rest (record { valid = valid; long = long; empty = empty; ready = ready }) follows)
+        subst (λ (t : List LogOp). IsExit base log (prepare_ops head first second ++ t) (empty_for head) [] (None ∷ Some (empty_for head) ∷ [])) (sym e) (rest_leaves base log head first second rest (record { valid = valid; long = long; empty = empty; ready = ready }) follows)
 
 -- whole formatting leaves the empty object alone
-pub makes_a_region : (base : List Line) (log : List LogOp) (head : Header) (first second : List Line) → IsHeader head → length base ≡ LINES → AreEmptyRecords head first second → IsReady base log (None ∷ []) → IsExit base log (formatting head first second) (empty_for head) [] (Some (empty_for head) ∷ [])
+pub makes_a_region : (base : List Line) (log : List LogOp) (head : Header) (first second : List Line) → IsHeader head → length base ≡ LINES → AreEmptyRecords head first second → IsReady base log (None ∷ []) → IsExit base log (format_ops head first second) (empty_for head) [] (Some (empty_for head) ∷ [])
 makes_a_region base log head first second valid long empty ready = record {
   covers = rest_covers base log head first second (magic_back ∷ Sync ∷ []) is (inr (inr (inr refl)));
-  stepwise = covered_stepwise (rest_covers base log head first second (magic_back ∷ Sync ∷ []) is (inr (inr (inr refl)))) (omega arith);
-  ready = ready_from_bounds base (log ++ (preparing head first second ++ appearing)) members (record {
+  one_unsealed = covered_stepwise (rest_covers base log head first second (magic_back ∷ Sync ∷ []) is (inr (inr (inr refl)))) (omega arith);
+  ready = ready_from_bounds base (log ++ (prepare_ops head first second ++ publish_ops)) members (record {
     shape = tt;
     settled = Formed head lines;
-    bounds = Bounds-weaker (IsOneOf base members) (Formed head lines) (Formed head lines) (subst (λ (l : List LogOp). Bounds base (reverse l) (Formed head lines) (Formed head lines) (Formed head lines)) (append_assoc log (preparing head first second) appearing) (appeared_bounds (log ++ preparing head first second) head lines (some_lines base long) (prepared_bounds base log head first second is))) one_of (λ w f. f) (λ w f. f);
+    bounds = Bounds-weaker (IsOneOf base members) (Formed head lines) (Formed head lines) (subst (λ (l : List LogOp). Bounds base (reverse l) (Formed head lines) (Formed head lines) (Formed head lines)) (append_assoc log (prepare_ops head first second) publish_ops) (appeared_bounds (log ++ prepare_ops head first second) head lines (some_lines base long) (prepared_bounds base log head first second is))) one_of (λ w f. f) (λ w f. f);
     inside = one_of;
     keeps = keeps;
   });
@@ -499,6 +500,6 @@ makes_a_region base log head first second valid long empty ready = record {
     one_of words formed = inl (formed_image base log head first second is words formed)
 
     keeps : KeepsSettled members (Formed head lines)
-    keeps line word to (inl settling) before image formed differs =
-        appears_formed head lines before image (settling_appears head first second lines line word to before image settling (fresh_laid base log head first second is) formed.1 differs) formed
+    keeps line word to (inl settle_ops) before image formed differs =
+        appears_formed head lines before image (settling_appears head first second lines line word to before image settle_ops (fresh_laid base log head first second is) formed.1 differs) formed
     keeps line word to (inr other) before image formed differs = absurd other

@@ -7,12 +7,13 @@ use Rattle.pb_object.specs.declared.kind.Kind.TheVariants.{Queue}
 use Rattle.pb_object.specs.Object.{State, Registers, Items, Rising, Waits}
 use Rattle.pb_object.specs.ObjectLines.{kind_of}
 use Rattle.pb_object.specs.Standing.{Standing, rounds_of}
-use Rattle.pb_layout.specs.Header.{IsHeader, record_length, first_record_line, cell_count}
+use Rattle.pb_layout.specs.Shape.{IsHeader}
+use Rattle.pb_layout.specs.Header.{record_length, first_record_line, cell_count}
 use Rattle.pb_layout.specs.Region.{record_place, cell_place}
 use Rattle.pb_layout.specs.Represents.{header_for}
 use Rattle.pb_layout.specs.declared.header.Header.{Header}
-use Rattle.pb_layout_laws.specs.Calls.{spare_place}
-use Rattle.pb_layout_laws.specs.InUse.{IsCellInUse, IsInUse}
+use Rattle.pb_layout.specs.RegionOps.{spare_place}
+use Rattle.pb_layout.specs.InUse.{IsCellInUse, IsInUse}
 
 -- The two records of a side take turns
 
@@ -30,7 +31,7 @@ parity-one r = λ e. omega (arith, e)
 
 -- The records are apart
 
--- records of one length, one behind the other, have no line in common
+-- records of one length, one after the other, have no line in common
 pub blocks_apart : (m n count a b : ℕ) → m < n → a < count → b < count → m * count + a < n * count + b
 blocks_apart m n count a b less left right = go n less
   where
@@ -59,19 +60,19 @@ spare_is_other head side other round turn a b same left right =
         let sides : other ≡ side = omega (arith, e, parity-lt (round + 1), parity-lt turn) in
         parity-one round (omega (arith, e, sides, ap (λ (n : ℕ). n % 2) (same sides)))
 
--- The records stand behind the header, the round numbers and the cells
+-- The records stand after the header, the round numbers and the cells
 
--- a record begins behind the first three lines
-pub record_behind : (head : Header) (side which : ℕ) → 3 ≤ record_place head side which
-record_behind head side which = omega arith
+-- a record begins after the first three lines
+pub record_after : (head : Header) (side which : ℕ) → 3 ≤ record_place head side which
+record_after head side which = omega arith
 
--- and behind the cells
-pub record_behind_cells : (head : Header) (side which : ℕ) → first_record_line head ≤ record_place head side which
-record_behind_cells head side which = omega arith
+-- and after the cells
+pub record_after_cells : (head : Header) (side which : ℕ) → first_record_line head ≤ record_place head side which
+record_after_cells head side which = omega arith
 
--- a cell lies behind the first three lines
-pub cell_behind : (head : Header) (position : ℕ) → 3 ≤ cell_place head position
-cell_behind head position = omega arith
+-- a cell lies after the first three lines
+pub cell_after : (head : Header) (position : ℕ) → 3 ≤ cell_place head position
+cell_after head position = omega arith
 
 -- a queue's cells lie below its records
 pub cell_offset : (head : Header) (position : ℕ) → IsHeader head → cell_place head position < 3 + head.size
@@ -84,10 +85,10 @@ cell_below head position valid queue =
 -- The spare record is not in use
 
 not_cell : (s : Standing) (state : State) (line : ℕ) → IsHeader (header_for s) → kind_of state ≡ s.kind → first_record_line (header_for s) ≤ line → ¬ IsCellInUse s state line
-not_cell s (Registers registers) line valid kind behind cell = cell
-not_cell s (Items size items) line valid kind behind cell = cell
-not_cell s (Rising size items) line valid kind behind cell = cell
-not_cell s (Waits size queue) line valid kind behind (place, inside, here) =
+not_cell s (Registers registers) line valid kind after cell = cell
+not_cell s (Items size items) line valid kind after cell = cell
+not_cell s (Rising size items) line valid kind after cell = cell
+not_cell s (Waits size queue) line valid kind after (place, inside, here) =
     omega (arith, here, cell_below (header_for s) (queue.taken + place) valid (sym kind))
 
 -- no line of a side's spare record is in use
@@ -98,8 +99,8 @@ spare_not_in_use s side place valid kind inside = go
     place_of = spare_place (header_for s) side (rounds_of s side)
 
     go : ¬ IsInUse s (place_of + place)
-    go (inl front) = omega (arith, front, record_behind (header_for s) side ((rounds_of s side + 1) % 2))
+    go (inl prefix) = omega (arith, prefix, record_after (header_for s) side ((rounds_of s side + 1) % 2))
     go (inr (inl record_line)) =
         spare_is_other (header_for s) side record_line.side (rounds_of s side) (rounds_of s record_line.side) place record_line.place (λ e. ap (rounds_of s) e) inside record_line.inside record_line.at
     go (inr (inr cell)) =
-        not_cell s s.state (place_of + place) valid kind (omega (arith, record_behind_cells (header_for s) side ((rounds_of s side + 1) % 2))) cell
+        not_cell s s.state (place_of + place) valid kind (omega (arith, record_after_cells (header_for s) side ((rounds_of s side + 1) % 2))) cell

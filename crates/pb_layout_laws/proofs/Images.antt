@@ -4,11 +4,11 @@ use Rattle.std.proofs.lemmas.Bool.{cases_lt}
 use Rattle.std.proofs.lemmas.List.{get_or_past}
 use Rattle.pb_pmem.specs.declared.line.Line.{Line}
 use Rattle.pb_pmem.specs.declared.log.LogOp.{LogOp}
-use Rattle.pb_pmem.specs.Crash.{IsLeft}
+use Rattle.pb_pmem.specs.Crash.{IsCrashImage}
 use Rattle.pb_pmem.specs.Lines.{line_of, line_at, word_of, zero_line}
-use Rattle.pb_pmem.specs.Past.{Words, now, Held, Last, AllHeld, AllLast, Leaves}
-use Rattle.pb_pmem.proofs.Agree.{IsLeft-Leaves}
-use Rattle.pb_pmem.proofs.Held.{Held-now, Last-now, Leaves-cases, Leaves-sync, Leaves-more, Leaves-none, Leaves-at_none}
+use Rattle.pb_pmem.specs.Past.{Words, now, AtNextMark, Last, AllAtNextMark, AllLast, Leaves}
+use Rattle.pb_pmem.proofs.Agree.{IsCrashImage-Leaves}
+use Rattle.pb_pmem.proofs.AtNextMark.{AtNextMark-now, Last-now, Leaves-cases, Leaves-sync, Leaves-more, Leaves-none, Leaves-at_none}
 use Rattle.pb_pmem.proofs.Lines.{length-contents}
 use Rattle.pb_pmem.proofs.Words.{same_images}
 use Rattle.pb_layout.proofs.Lines.{line_from_words}
@@ -112,12 +112,12 @@ now-past : (base : List Line) (past : List LogOp) (line word : ℕ) → (length 
 now-past base past line word (inl far) = word_of-past (now base past) line word (inl (omega (arith, length-contents base (reverse past))))
 now-past base past line word (inr far) = word_of-past (now base past) line word (inr far)
 
-Held-within : (base : List Line) (past : List LogOp) (words : Words) → AllHeld base past words → AllHeld base past (within base words)
-Held-within base past words held line word = go (word_of-image_of_or (length base) words line word)
+AtNextMark-within : (base : List Line) (past : List LogOp) (words : Words) → AllAtNextMark base past words → AllAtNextMark base past (within base words)
+AtNextMark-within base past words at_next_mark line word = go (word_of-image_of_or (length base) words line word)
   where
-    go : (within base words line word ≡ words line word) ⊎ ((within base words line word ≡ 0) × ((length base ≤ line) ⊎ (8 ≤ word))) → Held base past line word (within base words line word)
-    go (inl same) = subst (λ (x : ℕ). Held base past line word x) (sym same) (held line word)
-    go (inr far) = subst (λ (x : ℕ). Held base past line word x) (now-past base past line word far.1 ∙ sym far.0) (Held-now base past line word)
+    go : (within base words line word ≡ words line word) ⊎ ((within base words line word ≡ 0) × ((length base ≤ line) ⊎ (8 ≤ word))) → AtNextMark base past line word (within base words line word)
+    go (inl same) = subst (λ (x : ℕ). AtNextMark base past line word x) (sym same) (at_next_mark line word)
+    go (inr far) = subst (λ (x : ℕ). AtNextMark base past line word x) (now-past base past line word far.1 ∙ sym far.0) (AtNextMark-now base past line word)
 
 Last-within : (base : List Line) (past : List LogOp) (words : Words) → AllLast base past words → AllLast base past (within base words)
 Last-within base past words last line word = go (word_of-image_of_or (length base) words line word)
@@ -130,7 +130,7 @@ pub Leaves-within : (base : List Line) (past : List LogOp) (words : Words) → L
 Leaves-within base [] words leaves = Leaves-none base (within base words) (Last-within base [] words (Leaves-at_none base words leaves))
 Leaves-within base (op ∷ past) words leaves =
     elim (Leaves-cases base op past words leaves) [
-      | inl sync ↦ Leaves-sync base op past (within base words) sync.0 (Held-within base past words sync.1)
+      | inl sync ↦ Leaves-sync base op past (within base words) sync.0 (AtNextMark-within base past words sync.1)
       | inr other ↦ elim other.1 [
         | inl last ↦ Leaves-more base op past (within base words) other.0 (inl (Last-within base (op ∷ past) words last))
         | inr before ↦ Leaves-more base op past (within base words) other.0 (inr (Leaves-within base past words before))
@@ -138,6 +138,6 @@ Leaves-within base (op ∷ past) words leaves =
     ]
 
 -- what is left in words is left as an image
-pub left_image : (base : List Line) (log : List LogOp) (words : Words) → Leaves base (reverse log) words → IsLeft base log (image_of (length base) words)
+pub left_image : (base : List Line) (log : List LogOp) (words : Words) → Leaves base (reverse log) words → IsCrashImage base log (image_of (length base) words)
 left_image base log words leaves =
-    IsLeft-Leaves base log (image_of (length base) words) (length-image_of (length base) words) (Leaves-within base (reverse log) words leaves)
+    IsCrashImage-Leaves base log (image_of (length base) words) (length-image_of (length base) words) (Leaves-within base (reverse log) words leaves)

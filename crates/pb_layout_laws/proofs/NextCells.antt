@@ -15,8 +15,8 @@ use Rattle.pb_object.specs.Standing.{Standing}
 use Rattle.pb_layout.specs.declared.header.Header.{Header}
 use Rattle.pb_layout.specs.Cell.{cell_line_of}
 use Rattle.pb_layout.specs.Region.{cell_place}
-use Rattle.pb_layout.specs.Represents.{HoldCells}
-use Rattle.pb_layout_laws.specs.NextRecord.{next_position, HoldAdded}
+use Rattle.pb_layout.specs.Represents.{CellsRepresent}
+use Rattle.pb_layout.specs.NextRecord.{next_position, AddedCellsRepresent}
 
 -- a queue later on: what was taken stays taken, what was put stays put, and an item that still waits is the one of its position
 pub record IsLater (before after : Waiting) : Type 0 where
@@ -114,7 +114,7 @@ after_entries-later s (entry ∷ entries) =
     state_more s.state (next_state s.state entry.op) (after_entries s (entry ∷ entries)).state (state_next s.state entry.op) (after_entries-later (after_entry s entry) entries)
 
 -- so an image has the cells of a later state where it has those of the state before and those that were added
-pub cells_later : (image : List Line) (head : Header) (before after : State) → IsStateLater before after → HoldCells image head before → HoldAdded image head (next_position before) after → HoldCells image head after
+pub cells_later : (image : List Line) (head : Header) (before after : State) → IsStateLater before after → CellsRepresent image head before → AddedCellsRepresent image head (next_position before) after → CellsRepresent image head after
 cells_later image head before (Registers registers) later old added = tt
 cells_later image head before (Items size items) later old added = tt
 cells_later image head before (Rising size items) later old added = tt

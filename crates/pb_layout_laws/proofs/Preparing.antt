@@ -8,29 +8,32 @@ use Rattle.pb_pmem.specs.declared.line.TheConstants.{LINES}
 use Rattle.pb_pmem.specs.declared.log.LogOp.{LogOp}
 use Rattle.pb_pmem.specs.declared.log.LogOp.TheVariants.{Whole, Word, Back, Fence}
 use Rattle.pb_pmem.specs.Contents.{contents}
-use Rattle.pb_pmem.specs.Crash.{IsLeft}
+use Rattle.pb_pmem.specs.Crash.{IsCrashImage}
 use Rattle.pb_pmem.specs.Lines.{zero_line}
 use Rattle.pb_pmem.specs.Past.{Words, Bounds}
 use Rattle.pb_pmem.proofs.Bounds.{Bounds-weaker}
-use Rattle.pb_pmem.proofs.Rest.{IsLeft-contents}
+use Rattle.pb_pmem.proofs.CrashLaws.{IsCrashImage-contents}
 use Rattle.pb_object.specs.Codes.{kind_code}
 use Rattle.pb_object.specs.Standing.{Standing, side_count}
 use Rattle.pb_layout.specs.Covers.{Covers}
 use Rattle.pb_layout.specs.Damage.{HasRegion}
-use Rattle.pb_layout.specs.Header.{IsHeader, record_length, first_record_line}
-use Rattle.pb_layout.specs.Ready.{StandsForOne, IsReady}
+use Rattle.pb_layout.specs.declared.header.TheConstants.{VERSION}
+use Rattle.pb_layout.specs.Shape.{IsHeader}
+use Rattle.pb_layout.specs.Header.{record_length, old_record_length, old_first_record_line}
+use Rattle.pb_layout.specs.Ready.{ImageRepresentsOne, IsReady}
 use Rattle.pb_layout.specs.Region.{record_place}
 use Rattle.pb_layout.specs.declared.header.Header.{Header}
-use Rattle.pb_layout_laws.specs.Calls.{IsCutOff, writes_from, header_words, preparing}
-use Rattle.pb_layout_laws.specs.Exits.{IsExit, AreEmptyRecords, empty_for}
+use Rattle.pb_pmem.specs.Operations.{IsFailedPrefix, writes_from}
+use Rattle.pb_layout.specs.RegionOps.{header_words, prepare_ops}
+use Rattle.pb_layout.specs.Exits.{IsExit, AreEmptyRecords, empty_for}
 use Rattle.pb_layout_laws.proofs.Entering.{ready_bounds, IsOneOf, ready_from_bounds, image_from_bounds}
-use Rattle.pb_layout_laws.proofs.Fronts.{IsCoveredFront, covers_by_fronts}
-use Rattle.pb_layout_laws.proofs.Geometry.{record_behind}
+use Rattle.pb_layout_laws.proofs.Prefixes.{IsCoveredPrefix, covers_by_prefixes}
+use Rattle.pb_layout_laws.proofs.Geometry.{record_after}
 use Rattle.pb_layout_laws.proofs.Images.{image_of, word_of-image_of}
-use Rattle.pb_layout_laws.proofs.Laying.{laying, fronting}
+use Rattle.pb_layout_laws.proofs.WritingRegion.{laying, fronting}
 use Rattle.pb_layout_laws.proofs.Quiet.{IsQuiet, Bare, quiet-records, quiet-no_sync, quiet-bare, cut_off-quiet}
-use Rattle.pb_layout_laws.proofs.Stepwise.{covered_stepwise}
-use Rattle.pb_layout_laws.proofs.Writes.{writes_from-none, writes_from-more}
+use Rattle.pb_layout_laws.proofs.OneUnsealed.{covered_stepwise}
+use Rattle.pb_pmem.proofs.WrittenLines.{writes_from-none, writes_from-more}
 
 -- No region
 
@@ -52,26 +55,26 @@ bare_start base log some ready =
 pub nothing_at_start : (base : List Line) (log : List LogOp) → IsReady base log (None ∷ []) → ¬ HasRegion (contents base log)
 nothing_at_start base log ready = go ready.holds
   where
-    go : StandsForOne (contents base log) (None ∷ []) → ¬ HasRegion (contents base log)
+    go : ImageRepresentsOne (contents base log) (None ∷ []) → ¬ HasRegion (contents base log)
     go (inl nothing) = nothing
     go (inr other) = absurd other
 
--- behind quiet operations there is no region
-pub nothing_behind : (base : List Line) (log ops : List LogOp) → 0 < length base → IsReady base log (None ∷ []) → All IsQuiet ops → (image : List Line) → IsLeft base (log ++ ops) image → ¬ HasRegion image
-nothing_behind base log ops some ready quiet =
+-- after quiet operations there is no region
+pub nothing_after : (base : List Line) (log ops : List LogOp) → 0 < length base → IsReady base log (None ∷ []) → All IsQuiet ops → (image : List Line) → IsCrashImage base (log ++ ops) image → ¬ HasRegion image
+nothing_after base log ops some ready quiet =
     image_from_bounds (log ++ ops) (λ (i : List Line). ¬ HasRegion i) (quiet-bare log ops quiet (bare_start base log some ready)) (λ words bare. nothing_of_bare (length base) words some bare)
 
 -- so they are covered, whatever standing is asked for
-pub quiet_front : (base : List Line) (log front : List LogOp) (s : Standing) → 0 < length base → IsReady base log (None ∷ []) → All IsQuiet front → IsCoveredFront base log s front
-quiet_front base log front s some ready quiet image left =
+pub quiet_front : (base : List Line) (log prefix : List LogOp) (s : Standing) → 0 < length base → IsReady base log (None ∷ []) → All IsQuiet prefix → IsCoveredPrefix base log s prefix
+quiet_front base log prefix s some ready quiet image left =
     inr (
-      quiet-no_sync front quiet,
+      quiet-no_sync prefix quiet,
       record {
         earlier = contents base log;
-        left = IsLeft-contents base log;
+        left = IsCrashImage-contents base log;
         member = None;
         stood = nothing_at_start base log ready;
-        stands = nothing_behind base log front some ready quiet image left;
+        stands = nothing_after base log prefix some ready quiet image left;
       },
     )
 
@@ -79,7 +82,7 @@ quiet_front base log front s some ready quiet image left =
 pub quiet_leaves : (base : List Line) (log ops : List LogOp) (s : Standing) → 0 < length base → IsReady base log (None ∷ []) → All IsQuiet ops → IsExit base log ops s [] (None ∷ [])
 quiet_leaves base log ops s some ready quiet = record {
   covers = covers;
-  stepwise = covered_stepwise covers (omega arith);
+  one_unsealed = covered_stepwise covers (omega arith);
   ready = ready_from_bounds base (log ++ ops) (None ∷ []) (record {
     shape = tt;
     settled = Bare;
@@ -90,7 +93,7 @@ quiet_leaves base log ops s some ready quiet = record {
 }
   where
     covers : Covers base (log ++ ops) (length log) s []
-    covers = covers_by_fronts base log ops s [] (sym (quiet-records (contents base log) ops quiet)) (λ count. quiet_front base log (take count ops) s some ready (All-take IsQuiet count ops quiet)) (inr (nothing_at_start base log ready, quiet-no_sync ops quiet, nothing_behind base log ops some ready quiet (contents base (log ++ ops)) (IsLeft-contents base (log ++ ops))))
+    covers = covers_by_prefixes base log ops s [] (sym (quiet-records (contents base log) ops quiet)) (λ count. quiet_front base log (take count ops) s some ready (All-take IsQuiet count ops quiet)) (inr (nothing_at_start base log ready, quiet-no_sync ops quiet, nothing_after base log ops some ready quiet (contents base (log ++ ops)) (IsCrashImage-contents base (log ++ ops))))
 
 -- What preparing does
 
@@ -100,33 +103,33 @@ giving head =
     Back 0 3 ∷ Back (record_place head 0 0) (record_length head) ∷ ((if side_count head.kind == 2 then Back (record_place head 1 0) (record_length head) ∷ [] else []) ++ Fence ∷ [])
 
 -- preparing is all the writes but the magic, and then that
-pub preparing-is : (head : Header) (first second : List Line) → preparing head first second ≡ laying head first second ++ giving head
-preparing-is head first second =
+pub prepare_ops-is : (head : Header) (first second : List Line) → prepare_ops head first second ≡ laying head first second ++ giving head
+prepare_ops-is head first second =
     sym (append_assoc (writes_from (record_place head 0 0) first) (writes_from (record_place head 1 0) second ++ fronting head) (giving head) ∙ ap (λ (l : List LogOp). writes_from (record_place head 0 0) first ++ l) (append_assoc (writes_from (record_place head 1 0) second) (fronting head) (giving head)))
 
 writes_quiet : (first : ℕ) (lines : List Line) → first ≢ 0 → All IsQuiet (writes_from first lines)
-writes_quiet first [] behind = subst (All IsQuiet) (sym (writes_from-none first)) (All-nil IsQuiet)
-writes_quiet first (line ∷ lines) behind =
-    subst (All IsQuiet) (sym (writes_from-more first line lines)) (All-cons IsQuiet (Whole first line) (writes_from (suc first) lines) behind (writes_quiet (suc first) lines (λ e. omega (arith, e))))
+writes_quiet first [] after = subst (All IsQuiet) (sym (writes_from-none first)) (All-nil IsQuiet)
+writes_quiet first (line ∷ lines) after =
+    subst (All IsQuiet) (sym (writes_from-more first line lines)) (All-cons IsQuiet (Whole first line) (writes_from (suc first) lines) after (writes_quiet (suc first) lines (λ e. omega (arith, e))))
 
 word_quiet : (word to : ℕ) (ops : List LogOp) → word ≢ 0 → All IsQuiet ops → All IsQuiet (Word 0 word to ∷ ops)
-word_quiet word to ops behind quiet = All-cons IsQuiet (Word 0 word to) ops (refl, behind) quiet
+word_quiet word to ops after quiet = All-cons IsQuiet (Word 0 word to) ops (refl, after) quiet
 
 header_quiet : (head : Header) → All IsQuiet (header_words head)
 header_quiet head =
     let from_seven : List LogOp = Word 0 7 0 ∷ [] in
-    let from_six : List LogOp = Word 0 6 (first_record_line head) ∷ from_seven in
-    let from_five : List LogOp = Word 0 5 (record_length head) ∷ from_six in
+    let from_six : List LogOp = Word 0 6 (old_first_record_line head) ∷ from_seven in
+    let from_five : List LogOp = Word 0 5 (old_record_length head) ∷ from_six in
     let from_four : List LogOp = Word 0 4 head.size ∷ from_five in
     let from_three : List LogOp = Word 0 3 head.clients ∷ from_four in
     let from_two : List LogOp = Word 0 2 (kind_code head.kind) ∷ from_three in
     let seven = word_quiet 7 0 [] (λ e. omega (arith, e)) (All-nil IsQuiet) in
-    let six = word_quiet 6 (first_record_line head) from_seven (λ e. omega (arith, e)) seven in
-    let five = word_quiet 5 (record_length head) from_six (λ e. omega (arith, e)) six in
+    let six = word_quiet 6 (old_first_record_line head) from_seven (λ e. omega (arith, e)) seven in
+    let five = word_quiet 5 (old_record_length head) from_six (λ e. omega (arith, e)) six in
     let four = word_quiet 4 head.size from_five (λ e. omega (arith, e)) five in
     let three = word_quiet 3 head.clients from_four (λ e. omega (arith, e)) four in
     let two = word_quiet 2 (kind_code head.kind) from_three (λ e. omega (arith, e)) three in
-    word_quiet 1 1 from_two (λ e. omega (arith, e)) two
+    word_quiet 1 VERSION from_two (λ e. omega (arith, e)) two
 
 fronting_quiet : (head : Header) → All IsQuiet (fronting head)
 fronting_quiet head =
@@ -135,7 +138,7 @@ fronting_quiet head =
 -- the writes are quiet
 pub laying_quiet : (head : Header) (first second : List Line) → All IsQuiet (laying head first second)
 laying_quiet head first second =
-    All-append IsQuiet (writes_from (record_place head 0 0) first) (writes_from (record_place head 1 0) second ++ fronting head) (writes_quiet (record_place head 0 0) first (λ e. omega (arith, e, record_behind head 0 0))) (All-append IsQuiet (writes_from (record_place head 1 0) second) (fronting head) (writes_quiet (record_place head 1 0) second (λ e. omega (arith, e, record_behind head 1 0))) (fronting_quiet head))
+    All-append IsQuiet (writes_from (record_place head 0 0) first) (writes_from (record_place head 1 0) second ++ fronting head) (writes_quiet (record_place head 0 0) first (λ e. omega (arith, e, record_after head 0 0))) (All-append IsQuiet (writes_from (record_place head 1 0) second) (fronting head) (writes_quiet (record_place head 1 0) second (λ e. omega (arith, e, record_after head 1 0))) (fronting_quiet head))
 
 backs_quiet : (two : Bool) (first count : ℕ) → All IsQuiet ((if two then Back first count ∷ [] else []) ++ Fence ∷ [])
 backs_quiet true first count = All-cons IsQuiet (Back first count) (Fence ∷ []) tt (All-cons IsQuiet Fence [] tt (All-nil IsQuiet))
@@ -147,11 +150,11 @@ giving_quiet head =
     All-cons IsQuiet (Back 0 3) (Back (record_place head 0 0) (record_length head) ∷ rest) tt (All-cons IsQuiet (Back (record_place head 0 0) (record_length head)) rest tt (backs_quiet (side_count head.kind == 2) (record_place head 1 0) (record_length head)))
 
 -- all of it is quiet
-pub preparing_quiet : (head : Header) (first second : List Line) → All IsQuiet (preparing head first second)
+pub preparing_quiet : (head : Header) (first second : List Line) → All IsQuiet (prepare_ops head first second)
 preparing_quiet head first second =
-    subst (All IsQuiet) (sym (preparing-is head first second)) (All-append IsQuiet (laying head first second) (giving head) (laying_quiet head first second) (giving_quiet head))
+    subst (All IsQuiet) (sym (prepare_ops-is head first second)) (All-append IsQuiet (laying head first second) (giving head) (laying_quiet head first second) (giving_quiet head))
 
 -- formatting that is cut off before its magic is called leaves no region
-pub cut_off_while_preparing : (base : List Line) (log ops : List LogOp) (head : Header) (first second : List Line) → IsHeader head → length base ≡ LINES → AreEmptyRecords head first second → IsReady base log (None ∷ []) → IsCutOff (preparing head first second) ops → IsExit base log ops (empty_for head) [] (None ∷ [])
+pub cut_off_while_preparing : (base : List Line) (log ops : List LogOp) (head : Header) (first second : List Line) → IsHeader head → length base ≡ LINES → AreEmptyRecords head first second → IsReady base log (None ∷ []) → IsFailedPrefix (prepare_ops head first second) ops → IsExit base log ops (empty_for head) [] (None ∷ [])
 cut_off_while_preparing base log ops head first second valid long empty ready cut =
-    quiet_leaves base log ops (empty_for head) (omega (arith, long)) ready (cut_off-quiet (preparing head first second) ops (preparing_quiet head first second) cut)
+    quiet_leaves base log ops (empty_for head) (omega (arith, long)) ready (cut_off-quiet (prepare_ops head first second) ops (preparing_quiet head first second) cut)

@@ -1,9 +1,9 @@
 -- Operations that make no region: they write neither the magic nor a round number, and no sync is among them.
-use Rattle.std.proofs.Common.{◌≡◌, ◌≢◌, ℕ, ◌+◌, ◌<◌, ◌≤◌, ◌⊎◌, Bool, true, false, ◌||◌, List, [], ◌∷◌, ◌++◌, reverse, Some, ap, subst, sym, refl, ◌∙◌, inl, inr, arith}
+use Rattle.std.proofs.Common.{◌≡◌, ◌≢◌, ℕ, ◌+◌, ◌<◌, ◌≤◌, Bool, true, false, ◌||◌, List, [], ◌∷◌, ◌++◌, reverse, Some, ap, subst, sym, refl, ◌∙◌, inl, inr, arith}
 use Rattle.std.specs.List.{All, list_any}
 use Rattle.std.proofs.lemmas.Bool.Decides.{nat_tests}
 use Rattle.std.proofs.lemmas.List.{append_assoc, append-nil, reverse-append, reverse-reverse}
-use Rattle.std.proofs.lemmas.List.Elements.{All-head, All-tail, All-nil, All-append, All-cons}
+use Rattle.std.proofs.lemmas.List.Elements.{All-head, All-tail}
 use Rattle.pb_pmem.specs.declared.line.Line.{Line}
 use Rattle.pb_pmem.specs.declared.log.LogOp.{LogOp}
 use Rattle.pb_pmem.specs.declared.log.LogOp.TheVariants.{Whole, Word, Back, Fence, Sync}
@@ -12,17 +12,19 @@ use Rattle.pb_pmem.specs.Crash.{is_sync, is_back_of, line_written}
 use Rattle.pb_pmem.specs.Lines.{word_of}
 use Rattle.pb_pmem.specs.Past.{Words, DiffersBy, Bounds}
 use Rattle.pb_pmem.proofs.Bounds.{Bounds-write, Bounds-Back, Bounds-Fence, Bounds-Sync}
-use Rattle.pb_layout.specs.LogHistory.{LoggedRound, recorded_by_op, history_behind}
+use Rattle.pb_layout.specs.LogHistory.{LoggedRound, recorded_by_op, history_after}
 use Rattle.pb_layout.specs.declared.header.TheConstants.{MAGIC}
-use Rattle.pb_layout.proofs.LogHistories.{history_behind-none, history_behind-first}
-use Rattle.pb_layout_laws.specs.Calls.{MayAdd, IsCutOff}
+use Rattle.pb_layout.proofs.LogHistories.{history_after-none, history_after-first}
+use Rattle.pb_pmem.specs.Device.{MayAdd}
+use Rattle.pb_pmem.specs.Operations.{IsFailedPrefix}
+use Rattle.pb_layout_laws.proofs.CutOff.{cut_off_keeps}
 
 -- One more operation of a log, in its order
 
 -- a write
 pub push_write : {base : List Line} {A T S : Words → Type 0} (log : List LogOp) (op : LogOp) (at : ℕ) (A' T' S' : Words → Type 0) → line_written op ≡ Some at → Bounds base (reverse log) A T S → ((before image : Words) → T before → DiffersBy op before image → T' image) → ((before image : Words) → S before → DiffersBy op before image → S' image) → ((image : Words) → A image → A' image) → ((image : Words) → T' image → A' image) → Bounds base (reverse (log ++ op ∷ [])) A' T' S'
-push_write {base} log op at A' T' S' written bounds last held old new =
-    subst (λ (l : List LogOp). Bounds base l A' T' S') (sym (reverse-append log (op ∷ []))) (Bounds-write op at A' T' S' written bounds last held old new)
+push_write {base} log op at A' T' S' written bounds last at_next_mark old new =
+    subst (λ (l : List LogOp). Bounds base l A' T' S') (sym (reverse-append log (op ∷ []))) (Bounds-write op at A' T' S' written bounds last at_next_mark old new)
 
 -- the lines that a `Back` gives are the contents
 abbrev pub HasGiven : ℕ → ℕ → List Line → Words → Type 0
@@ -32,7 +34,7 @@ HasGiven first count lines image =
 -- a `Back`
 pub push_back : {base : List Line} {A T S : Words → Type 0} (log : List LogOp) (first count : ℕ) (S' : Words → Type 0) → Bounds base (reverse log) A T S → ((image : Words) → S image → HasGiven first count (contents base log) image → S' image) → Bounds base (reverse (log ++ Back first count ∷ [])) A T S'
 push_back {base} {A} {T} {S} log first count S' bounds given =
-    subst (λ (l : List LogOp). Bounds base l A T S') (sym (reverse-append log (Back first count ∷ []))) (Bounds-Back first count S' bounds (λ image held is. given image held (λ line word low high. is line word (within first count line low high) ∙ ap (λ (l : List LogOp). word_of (contents base l) line word) (reverse-reverse log))))
+    subst (λ (l : List LogOp). Bounds base l A T S') (sym (reverse-append log (Back first count ∷ []))) (Bounds-Back first count S' bounds (λ image at_next_mark is. given image at_next_mark (λ line word low high. is line word (within first count line low high) ∙ ap (λ (l : List LogOp). word_of (contents base l) line word) (reverse-reverse log))))
   where
     within : (first count line : ℕ) → first ≤ line → line < first + count → is_back_of line (Back first count) ≡ true
     within first count line low high = grind (arith, nat_tests)
@@ -49,7 +51,7 @@ push_sync {base} {A} {T} {S} log bounds =
 
 -- Quiet operations
 
--- an operation that is no sync, and writes whole lines but line 0, and of line 0 the words behind the first
+-- an operation that is no sync, and writes whole lines but line 0, and of line 0 the words after the first
 abbrev pub IsQuiet : LogOp → Type 0
 IsQuiet (Whole line to) = line ≢ 0
 IsQuiet (Word line word to) = (line ≡ 0) × (word ≢ 0)
@@ -70,10 +72,10 @@ quiet_op-records Fence lines quiet = refl
 quiet_op-records Sync lines quiet = refl
 
 -- such operations record no round
-pub quiet-records : (lines : List Line) (ops : List LogOp) → All IsQuiet ops → history_behind lines [] ops ≡ []
-quiet-records lines [] quiet = history_behind-none lines []
+pub quiet-records : (lines : List Line) (ops : List LogOp) → All IsQuiet ops → history_after lines [] ops ≡ []
+quiet-records lines [] quiet = history_after-none lines []
 quiet-records lines (op ∷ ops) quiet =
-    history_behind-first lines [] op ops ∙ (ap (λ (h : List LoggedRound). history_behind (applied op lines) h ops) (quiet_op-records op lines (All-head IsQuiet op ops quiet)) ∙ quiet-records (applied op lines) ops (All-tail IsQuiet op ops quiet))
+    history_after-first lines [] op ops ∙ (ap (λ (h : List LoggedRound). history_after (applied op lines) h ops) (quiet_op-records op lines (All-head IsQuiet op ops quiet)) ∙ quiet-records (applied op lines) ops (All-tail IsQuiet op ops quiet))
 
 quiet_op-no_sync : (op : LogOp) → IsQuiet op → is_sync op ≡ false
 quiet_op-no_sync (Whole line to) quiet = refl
@@ -121,7 +123,7 @@ quiet_op-bare log (Back first count) quiet bounds = push_back log first count Ba
 quiet_op-bare log Fence quiet bounds = push_fence log bounds
 quiet_op-bare log Sync quiet bounds = absurd quiet
 
--- where no image had a region, none has one behind quiet operations
+-- where no image had a region, none has one after quiet operations
 pub quiet-bare : {base : List Line} (log ops : List LogOp) → All IsQuiet ops → Bounds base (reverse log) Bare Bare Bare → Bounds base (reverse (log ++ ops)) Bare Bare Bare
 quiet-bare {base} log [] quiet bounds =
     subst (λ (l : List LogOp). Bounds base (reverse l) Bare Bare Bare) (sym (append-nil log)) bounds
@@ -140,28 +142,6 @@ added-quiet (Back first count) added quiet may = subst IsQuiet (sym may) tt
 added-quiet Fence added quiet may = subst IsQuiet (sym may) tt
 added-quiet Sync added quiet may = absurd quiet
 
-front_quiet : (front rest : List LogOp) → All IsQuiet (front ++ rest) → All IsQuiet front
-front_quiet [] rest quiet = All-nil IsQuiet
-front_quiet (op ∷ front) rest quiet =
-    All-cons IsQuiet op front (All-head IsQuiet op (front ++ rest) quiet) (front_quiet front rest (All-tail IsQuiet op (front ++ rest) quiet))
-
-rest_quiet : (front rest : List LogOp) → All IsQuiet (front ++ rest) → All IsQuiet rest
-rest_quiet [] rest quiet = quiet
-rest_quiet (op ∷ front) rest quiet = rest_quiet front rest (All-tail IsQuiet op (front ++ rest) quiet)
-
 -- quiet operations that are cut off are quiet
-pub cut_off-quiet : (all ops : List LogOp) → All IsQuiet all → IsCutOff all ops → All IsQuiet ops
-cut_off-quiet all ops quiet cut = go cut.added
-  where
-    parts : All IsQuiet (cut.front ++ cut.failed ∷ cut.rest)
-    parts = subst (All IsQuiet) cut.whole quiet
-
-    front : All IsQuiet cut.front
-    front = front_quiet cut.front (cut.failed ∷ cut.rest) parts
-
-    failed : IsQuiet cut.failed
-    failed = All-head IsQuiet cut.failed cut.rest (rest_quiet cut.front (cut.failed ∷ cut.rest) parts)
-
-    go : (ops ≡ cut.front) ⊎ ((op : LogOp) × MayAdd cut.failed op × (ops ≡ cut.front ++ op ∷ [])) → All IsQuiet ops
-    go (inl e) = subst (All IsQuiet) (sym e) front
-    go (inr (op, may, e)) = subst (All IsQuiet) (sym e) (All-append IsQuiet cut.front (op ∷ []) front (All-cons IsQuiet op [] (added-quiet cut.failed op failed may) (All-nil IsQuiet)))
+pub cut_off-quiet : (all ops : List LogOp) → All IsQuiet all → IsFailedPrefix all ops → All IsQuiet ops
+cut_off-quiet all ops quiet cut = cut_off_keeps IsQuiet added-quiet all ops quiet cut

@@ -15,12 +15,12 @@ use Rattle.pb_object.specs.History.{Entry, Round, kept_by, after_entry, after_en
 use Rattle.pb_object.specs.Map.{Register, map_reply}
 use Rattle.pb_object.specs.Object.{State, Registers, Items, Rising, Waits, next_state}
 use Rattle.pb_object.specs.ObjectLines.{kind_of, size_of}
-use Rattle.pb_object.specs.Request.{none_kept, LeavesUnusedZero, IsOperation}
-use Rattle.pb_object.specs.Standing.{Standing, side_count, rounds_of, kept_of}
+use Rattle.pb_object.specs.Request.{LeavesUnusedZero, IsOperation}
+use Rattle.pb_object.specs.Standing.{Standing, side_count, rounds_of, kept_list_of, newest_of, newest, keep}
 use Rattle.pb_layout.specs.ClientLine.{IsRecorded}
 use Rattle.pb_layout.specs.Represents.{header_for}
 use Rattle.pb_layout.proofs.Keeping.{recorded_by}
-use Rattle.pb_layout_laws.specs.NextRecord.{IsOfOther}
+use Rattle.pb_layout.specs.NextRecord.{IsOfOther}
 
 length_by : (test : Bool) (left right : List Register) → length left ≡ length right → length (if test then left else right) ≡ length right
 length_by true left right e = e
@@ -53,7 +53,7 @@ after_entries-rounds s (entry ∷ entries) = after_entries-rounds (after_entry s
 -- .. how many requests are kept
 pub after_entries-kept : (s : Standing) (entries : List Entry) → length (after_entries s entries).kept ≡ length s.kept
 after_entries-kept s [] = refl
-after_entries-kept s (entry ∷ entries) = after_entries-kept (after_entry s entry) entries ∙ length-set s.kept entry.client (kept_by entry)
+after_entries-kept s (entry ∷ entries) = after_entries-kept (after_entry s entry) entries ∙ length-set s.kept entry.client (keep (kept_by entry) (kept_list_of s entry.client))
 
 -- .. the object's kind
 pub after_entries-kind_of : (s : Standing) (entries : List Entry) → kind_of (after_entries s entries).state ≡ kind_of s.state
@@ -106,7 +106,7 @@ next_side s round legal = go round.entries legal.some legal.legal
 pub next_header : (s : Standing) (round : Round) → header_for (after_round s round) ≡ header_for s
 next_header s round = after_entries-header s round.entries
 
--- the counts of rounds behind a round
+-- the counts of rounds after a round
 pub next_round_list : (s : Standing) (round : Round) → (after_round s round).rounds ≡ set s.rounds round.side (rounds_of s round.side + 1)
 next_round_list s round = ap (λ (rounds : List ℕ). set rounds round.side (get_or rounds round.side 0 + 1)) (after_entries-rounds s round.entries)
 
@@ -142,28 +142,28 @@ rise-others client floor (entry ∷ entries) below rise =
     All-cons (IsOfOther client) entry entries (λ e. absurd (omega (arith, rise.0, e))) (rise-others client (suc entry.client) entries (omega (arith, rise.0)) rise.1)
 
 -- an entry leaves what is kept of others
-pub after_entry-other : (s : Standing) (entry : Entry) (client : ℕ) → entry.client ≢ client → kept_of (after_entry s entry) client ≡ kept_of s client
-after_entry-other s entry client apart = get_or-set_other s.kept entry.client client (kept_by entry) none_kept (λ e. apart (sym e))
+pub after_entry-other : (s : Standing) (entry : Entry) (client : ℕ) → entry.client ≢ client → kept_list_of (after_entry s entry) client ≡ kept_list_of s client
+after_entry-other s entry client apart = get_or-set_other s.kept entry.client client (keep (kept_by entry) (kept_list_of s entry.client)) [] (λ e. apart (sym e))
 
 -- entries leave what is kept of clients that have none
-pub after_entries-other : (s : Standing) (entries : List Entry) (client : ℕ) → All (IsOfOther client) entries → kept_of (after_entries s entries) client ≡ kept_of s client
+pub after_entries-other : (s : Standing) (entries : List Entry) (client : ℕ) → All (IsOfOther client) entries → kept_list_of (after_entries s entries) client ≡ kept_list_of s client
 after_entries-other s [] client others = refl
 after_entries-other s (entry ∷ entries) client others =
     after_entries-other (after_entry s entry) entries client (All-tail (IsOfOther client) entry entries others) ∙ after_entry-other s entry client (All-head (IsOfOther client) entry entries others)
 
--- a client has this entry among these: it has the next number, and is what is kept of the client behind them
-pub record HasEntry (P : Entry → Type 0) (s : Standing) (side : ℕ) (entries : List Entry) (client : ℕ) : Type 0 where
+-- a client has this entry among these: it has the next number, and is what is kept of the client after them
+pub record HasOwnEntry (P : Entry → Type 0) (s : Standing) (side : ℕ) (entries : List Entry) (client : ℕ) : Type 0 where
   pub entry : Entry
   pub own : entry.client ≡ client
   pub holds : P entry
-  pub number : entry.number ≡ (kept_of s client).number + 1
+  pub number : entry.number ≡ (newest_of s client).number + 1
   pub recorded : IsRecorded s.kind side (kept_by entry)
-  pub kept : kept_of (after_entries s entries) client ≡ kept_by entry
+  pub kept : kept_list_of (after_entries s entries) client ≡ keep (kept_by entry) (kept_list_of s client)
 
 -- a client has one of these legal entries, of which what holds of all holds, or all are of others
 pub entry_or_others : (P : Entry → Type 0) (s : Standing) (side floor : ℕ) (entries : List Entry) (client : ℕ)
     → client < length s.kept → kind_of s.state ≡ s.kind → AreLegal s side entries → RiseFrom floor entries → All P entries
-    → HasEntry P s side entries client ⊎ All (IsOfOther client) entries
+    → HasOwnEntry P s side entries client ⊎ All (IsOfOther client) entries
 entry_or_others P s side floor [] client inside kind legal rise all = inr (All-nil (IsOfOther client))
 entry_or_others P s side floor (entry ∷ entries) client inside kind legal rise all =
     elim (cases_eq entry.client client) [
@@ -171,21 +171,21 @@ entry_or_others P s side floor (entry ∷ entries) client inside kind legal rise
         entry = entry;
         own = e;
         holds = All-head P entry entries all;
-        number = legal.0.number ∙ ap (λ (n : ℕ). (kept_of s n).number + 1) e;
+        number = legal.0.number ∙ ap (λ (n : ℕ). (newest_of s n).number + 1) e;
         recorded = recorded_by s side entry kind legal.0;
         kept = after_entries-other (after_entry s entry) entries client (rise-others client (suc entry.client) entries (omega (arith, e)) rise.1)
-            ∙ (ap (λ (n : ℕ). get_or (set s.kept n (kept_by entry)) client none_kept) e ∙ get_or-set_same s.kept client (kept_by entry) none_kept inside);
+            ∙ (ap (λ (n : ℕ). get_or (set s.kept n (keep (kept_by entry) (kept_list_of s n))) client []) e ∙ get_or-set_same s.kept client (keep (kept_by entry) (kept_list_of s client)) [] inside);
       })
-      | inr apart ↦ more apart (entry_or_others P (after_entry s entry) side (suc entry.client) entries client (subst (λ (n : ℕ). client < n) (sym (length-set s.kept entry.client (kept_by entry))) inside) (next_state-kind s.state entry.op ∙ kind) legal.1 rise.1 (All-tail P entry entries all))
+      | inr apart ↦ more apart (entry_or_others P (after_entry s entry) side (suc entry.client) entries client (subst (λ (n : ℕ). client < n) (sym (length-set s.kept entry.client (keep (kept_by entry) (kept_list_of s entry.client)))) inside) (next_state-kind s.state entry.op ∙ kind) legal.1 rise.1 (All-tail P entry entries all))
     ]
   where
-    more : entry.client ≢ client → HasEntry P (after_entry s entry) side entries client ⊎ All (IsOfOther client) entries → HasEntry P s side (entry ∷ entries) client ⊎ All (IsOfOther client) (entry ∷ entries)
+    more : entry.client ≢ client → HasOwnEntry P (after_entry s entry) side entries client ⊎ All (IsOfOther client) entries → HasOwnEntry P s side (entry ∷ entries) client ⊎ All (IsOfOther client) (entry ∷ entries)
     more apart (inr others) = inr (All-cons (IsOfOther client) entry entries apart others)
     more apart (inl has) = inl (record {
       entry = has.entry;
       own = has.own;
       holds = has.holds;
-      number = has.number ∙ ap (λ (k : Kept). k.number + 1) (after_entry-other s entry client apart);
+      number = has.number ∙ ap (λ (list : List Kept). (newest list).number + 1) (after_entry-other s entry client apart);
       recorded = has.recorded;
-      kept = has.kept;
+      kept = has.kept ∙ ap (keep (kept_by has.entry)) (after_entry-other s entry client apart);
     })

@@ -1,92 +1,84 @@
 -- A store before its index word: the images stay what they were, and in the end the spare record is there.
 use Rattle.std.proofs.Common.{◌≡◌, ℕ, suc, ◌+◌, ◌-◌, ◌%◌, ◌<◌, ◌≤◌, ◌⊎◌, List, [], ◌∷◌, ◌++◌, length, reverse, ap, subst, sym, refl, ◌∙◌, inl, inr, arith}
 use Rattle.std.specs.List.{All}
-use Rattle.std.proofs.Math.Seq.{take-append_seam, drop-append_seam}
 use Rattle.std.proofs.lemmas.List.{append_assoc}
-use Rattle.std.proofs.lemmas.List.Elements.{All-head, All-tail, All-nil, All-cons, All-append, All-take, All-drop}
+use Rattle.std.proofs.lemmas.List.Elements.{All-head, All-tail, All-nil, All-cons, All-append}
 use Rattle.pb_pmem.specs.declared.line.Line.{Line}
 use Rattle.pb_pmem.specs.declared.line.TheConstants.{LINES}
 use Rattle.pb_pmem.specs.declared.log.LogOp.{LogOp}
 use Rattle.pb_pmem.specs.declared.log.LogOp.TheVariants.{Whole, Word, Back, Fence, Sync}
-use Rattle.pb_pmem.specs.Contents.{applied}
+use Rattle.pb_pmem.specs.Contents.{applied, contents}
 use Rattle.pb_pmem.specs.Lines.{line_at, word_of}
 use Rattle.pb_pmem.specs.Past.{Words, DiffersBy, Bounds}
 use Rattle.pb_pmem.proofs.Bounds.{Bounds-write, Bounds-Back, Bounds-Fence, Bounds-weaker}
-use Rattle.pb_pmem.proofs.Words.{reverse-cons}
+use Rattle.pb_pmem.proofs.Lines.{contents-none, contents-first}
+use Rattle.pb_pmem.proofs.Words.{reverse-cons, line_at-applied_other}
 use Rattle.pb_object.specs.History.{Round, after_round}
 use Rattle.pb_object.specs.Object.{State, Registers, Items, Rising, Waits}
 use Rattle.pb_object.specs.ObjectLines.{kind_of}
 use Rattle.pb_object.specs.Standing.{Standing, side_count, rounds_of}
-use Rattle.pb_layout.specs.Header.{IsHeader, record_length}
+use Rattle.pb_layout.specs.Shape.{IsHeader}
+use Rattle.pb_layout.specs.Header.{record_length}
 use Rattle.pb_layout.specs.declared.header.Header.{Header}
 use Rattle.pb_object.specs.declared.kind.Kind.{Kind}
 use Rattle.pb_object.specs.declared.kind.Kind.TheVariants.{Map, Stack, Heap, Queue}
 use Rattle.pb_layout_laws.proofs.Rounds.{after_entries-kind_of}
-use Rattle.pb_layout.specs.LogHistory.{recorded_by_op, history_behind}
+use Rattle.pb_layout.specs.LogHistory.{recorded_by_op, history_after}
 use Rattle.pb_layout.specs.Region.{cell_place}
-use Rattle.pb_layout.specs.Represents.{header_for, HoldCells, Represents}
-use Rattle.pb_layout.proofs.LogHistories.{history_behind-none, history_behind-first}
-use Rattle.pb_layout_laws.specs.Calls.{writes_from, staging, spare_place, MayAdd, IsCutOff}
-use Rattle.pb_layout_laws.specs.InUse.{IsInUse}
+use Rattle.pb_layout.specs.Represents.{header_for, CellsRepresent}
+use Rattle.pb_layout.specs.Recovered.{Represents}
+use Rattle.pb_layout.proofs.LogHistories.{history_after-none, history_after-first}
+use Rattle.pb_pmem.specs.Operations.{writes_from}
+use Rattle.pb_layout.specs.RegionOps.{fenced_ops, spare_place}
+use Rattle.pb_layout.specs.Stages.{IsLineFrom, IsStagingOp, StagesRecord}
+use Rattle.pb_layout.specs.InUse.{IsInUse}
 use Rattle.pb_layout_laws.proofs.Entering.{Implies}
 use Rattle.pb_layout_laws.proofs.Frame.{represents_by_words}
-use Rattle.pb_layout_laws.proofs.Geometry.{spare_not_in_use, cell_below, record_behind_cells, parity-lt}
-use Rattle.pb_layout.proofs.OneAnswer.{record_fits}
+use Rattle.pb_layout_laws.proofs.Geometry.{spare_not_in_use, cell_below, record_after_cells, parity-lt}
+use Rattle.pb_layout.proofs.OneRecovery.{parts, record_fits}
 use Rattle.pb_layout_laws.proofs.Images.{image_of, length-image_of, word_of-image_of, line_at-image_of, line_in-same}
-use Rattle.pb_layout_laws.proofs.Writes.{writes_from-none, writes_from-more}
+use Rattle.pb_pmem.proofs.WrittenLines.{writes_from-none, writes_from-more, line_at-writes_here}
 
--- operations that write nothing but lines of a piece, and don't wait
-abbrev pub IsIn : ℕ → ℕ → ℕ → Type 0
-IsIn first count line = (first ≤ line) × (line < first + count)
+-- Operations that stage a record, and don't wait
 
-abbrev pub IsQuiet : ℕ → ℕ → LogOp → Type 0
-IsQuiet first count (Whole line to) = IsIn first count line
-IsQuiet first count (Word line word to) = ⊥
-IsQuiet first count (Back at many) = Unit {0}
-IsQuiet first count Fence = Unit {0}
-IsQuiet first count Sync = ⊥
-
-pub quiet_writes : (first count at : ℕ) (lines : List Line) → first ≤ at → at + length lines ≤ first + count → All (IsQuiet first count) (writes_from at lines)
+pub quiet_writes : (first count at : ℕ) (lines : List Line) → first ≤ at → at + length lines ≤ first + count → All (IsStagingOp first count) (writes_from at lines)
 quiet_writes first count at [] low high =
-    subst (λ (l : List LogOp). All (IsQuiet first count) l) (sym (writes_from-none at)) (All-nil (IsQuiet first count))
+    subst (λ (l : List LogOp). All (IsStagingOp first count) l) (sym (writes_from-none at)) (All-nil (IsStagingOp first count))
 quiet_writes first count at (line ∷ lines) low high =
-    subst (λ (l : List LogOp). All (IsQuiet first count) l) (sym (writes_from-more at line lines)) (All-cons (IsQuiet first count) (Whole at line) (writes_from (suc at) lines) (low, omega arith) (quiet_writes first count (suc at) lines (omega arith) (omega arith)))
+    subst (λ (l : List LogOp). All (IsStagingOp first count) l) (sym (writes_from-more at line lines)) (All-cons (IsStagingOp first count) (Whole at line) (writes_from (suc at) lines) (low, omega arith) (quiet_writes first count (suc at) lines (omega arith) (omega arith)))
 
--- staging is quiet
-pub quiet_staging : (first : ℕ) (lines : List Line) → All (IsQuiet first (length lines)) (staging first lines)
-quiet_staging first lines =
-    All-append (IsQuiet first (length lines)) (writes_from first lines) (Back first (length lines) ∷ Fence ∷ []) (quiet_writes first (length lines) first lines (omega arith) (omega arith)) (All-cons (IsQuiet first (length lines)) (Back first (length lines)) (Fence ∷ []) tt (All-cons (IsQuiet first (length lines)) Fence [] tt (All-nil (IsQuiet first (length lines)))))
+-- .. and with a `Back` and a fence after them
+pub quiet_fenced : (first count : ℕ) (writes : List LogOp) → All (IsStagingOp first count) writes → All (IsStagingOp first count) (fenced_ops writes first count)
+quiet_fenced first count writes quiet =
+    All-append (IsStagingOp first count) writes (Back first count ∷ Fence ∷ []) quiet (All-cons (IsStagingOp first count) (Back first count) (Fence ∷ []) tt (All-cons (IsStagingOp first count) Fence [] tt (All-nil (IsStagingOp first count))))
 
-quiet_added : (first count : ℕ) (failed op : LogOp) → IsQuiet first count failed → MayAdd failed op → IsQuiet first count op
-quiet_added first count (Whole line to) (Whole at other) quiet added = subst (λ (n : ℕ). IsIn first count n) (sym added) quiet
-quiet_added first count (Whole line to) (Word at word other) quiet added = absurd added
-quiet_added first count (Whole line to) (Back at many) quiet added = absurd added
-quiet_added first count (Whole line to) Fence quiet added = absurd added
-quiet_added first count (Whole line to) Sync quiet added = absurd added
-quiet_added first count (Word line word to) op quiet added = absurd quiet
-quiet_added first count (Back at many) op quiet added = subst (λ (o : LogOp). IsQuiet first count o) (sym added) quiet
-quiet_added first count Fence op quiet added = subst (λ (o : LogOp). IsQuiet first count o) (sym added) quiet
-quiet_added first count Sync op quiet added = absurd quiet
+quiet_contents : (first count : ℕ) (a : List Line) (op : LogOp) (line : ℕ) → IsStagingOp first count op → ¬ IsLineFrom first count line → line_at (applied op a) line ≡ line_at a line
+quiet_contents first count a (Whole at to) line quiet out = line_at-applied_other (Whole at to) a line (λ e. out (subst (IsLineFrom first count) (cc) quiet))
+quiet_contents first count a (Word at word to) line quiet out = absurd quiet
+quiet_contents first count a (Back at many) line quiet out = refl
+quiet_contents first count a Fence line quiet out = refl
+quiet_contents first count a Sync line quiet out = absurd quiet
 
--- and so is what is left of it where it is cut off
-pub quiet_cut_off : (first count : ℕ) (all ops : List LogOp) → All (IsQuiet first count) all → IsCutOff all ops → All (IsQuiet first count) ops
-quiet_cut_off first count all ops quiet cut =
-    let Q = IsQuiet first count in
-    let whole = subst (λ (l : List LogOp). All Q l) cut.whole quiet in
-    let front = subst (λ (l : List LogOp). All Q l) (take-append_seam cut.front (cut.failed ∷ cut.rest)) (All-take Q (length cut.front) (cut.front ++ cut.failed ∷ cut.rest) whole) in
-    let failed = All-head Q cut.failed cut.rest (subst (λ (l : List LogOp). All Q l) (drop-append_seam cut.front (cut.failed ∷ cut.rest)) (All-drop Q (length cut.front) (cut.front ++ cut.failed ∷ cut.rest) whole)) in
-    elim cut.added [
-      | inl same ↦ subst (λ (l : List LogOp). All Q l) (sym same) front
-      | inr more ↦ subst (λ (l : List LogOp). All Q l) (sym more.2) (All-append Q cut.front (more.0 ∷ []) front (All-cons Q more.0 [] (quiet_added first count cut.failed more.0 failed more.1) (All-nil Q)))
-    ]
+-- other lines stay as they are
+pub quiet_lines : (first count : ℕ) (a : List Line) (ops : List LogOp) (line : ℕ) → All (IsStagingOp first count) ops → ¬ IsLineFrom first count line → line_at (contents a ops) line ≡ line_at a line
+quiet_lines first count a [] line quiet out = ap (λ (l : List Line). line_at l line) (contents-none a)
+quiet_lines first count a (op ∷ ops) line quiet out =
+    ap (λ (l : List Line). line_at l line) (contents-first a op ops) ∙ (quiet_lines first count (applied op a) ops line (All-tail (IsStagingOp first count) op ops quiet) out ∙ quiet_contents first count a op line (All-head (IsStagingOp first count) op ops quiet) out)
+
+-- writes of all lines stage a record
+pub all_lines_stage : (first : ℕ) (lines before : List Line) → first + length lines ≤ length before → StagesRecord first lines before (writes_from first lines)
+all_lines_stage first lines before fits = record {
+  all = quiet_writes first (length lines) first lines (omega arith) (omega arith);
+  there = λ place inside. line_at-writes_here before first lines place inside fits;
+}
 
 -- quiet operations record no round, and hold no sync
-pub quiet_history : (first count : ℕ) (lines : List Line) (ops : List LogOp) → All (IsQuiet first count) ops → history_behind lines [] ops ≡ []
-quiet_history first count lines [] quiet = history_behind-none lines []
+pub quiet_history : (first count : ℕ) (lines : List Line) (ops : List LogOp) → All (IsStagingOp first count) ops → history_after lines [] ops ≡ []
+quiet_history first count lines [] quiet = history_after-none lines []
 quiet_history first count lines (op ∷ ops) quiet =
-    history_behind-first lines [] op ops ∙ go op (All-head (IsQuiet first count) op ops quiet) (λ l. quiet_history first count l ops (All-tail (IsQuiet first count) op ops quiet))
+    history_after-first lines [] op ops ∙ go op (All-head (IsStagingOp first count) op ops quiet) (λ l. quiet_history first count l ops (All-tail (IsStagingOp first count) op ops quiet))
   where
-    go : (o : LogOp) → IsQuiet first count o → ((l : List Line) → history_behind l [] ops ≡ []) → history_behind (applied o lines) (recorded_by_op o lines []) ops ≡ []
+    go : (o : LogOp) → IsStagingOp first count o → ((l : List Line) → history_after l [] ops ≡ []) → history_after (applied o lines) (recorded_by_op o lines []) ops ≡ []
     go (Whole line to) q rest = rest (applied (Whole line to) lines)
     go (Word line word to) q rest = absurd q
     go (Back at many) q rest = rest lines
@@ -96,13 +88,13 @@ quiet_history first count lines (op ∷ ops) quiet =
 -- a property of images that goes by lines outside a piece
 abbrev pub KeepsOutside : ℕ → ℕ → (Words → Type 0) → Type 0
 KeepsOutside first count P =
-    (before image : Words) → P before → ((line word : ℕ) → (image line word ≡ before line word) ⊎ IsIn first count line) → P image
+    (before image : Words) → P before → ((line word : ℕ) → (image line word ≡ before line word) ⊎ IsLineFrom first count line) → P image
 
-quiet_differs : (first count line : ℕ) (to : Line) (before image : Words) → IsIn first count line → DiffersBy (Whole line to) before image → (l word : ℕ) → (image l word ≡ before l word) ⊎ IsIn first count l
+quiet_differs : (first count line : ℕ) (to : Line) (before image : Words) → IsLineFrom first count line → DiffersBy (Whole line to) before image → (l word : ℕ) → (image l word ≡ before l word) ⊎ IsLineFrom first count l
 quiet_differs first count line to before image inside differs l word =
-    elim (differs l word) [ inl same ↦ inl same | inr written ↦ inr (subst (λ (n : ℕ). IsIn first count n) written inside) ]
+    elim (differs l word) [ inl same ↦ inl same | inr written ↦ inr (subst (λ (n : ℕ). IsLineFrom first count n) written inside) ]
 
-quiet_op : {base : List Line} {past : List LogOp} (first count : ℕ) (A S : Words → Type 0) → Implies S A → KeepsOutside first count A → KeepsOutside first count S → (op : LogOp) → IsQuiet first count op → Bounds base past A A S → Bounds base (op ∷ past) A A S
+quiet_op : {base : List Line} {past : List LogOp} (first count : ℕ) (A S : Words → Type 0) → Implies S A → KeepsOutside first count A → KeepsOutside first count S → (op : LogOp) → IsStagingOp first count op → Bounds base past A A S → Bounds base (op ∷ past) A A S
 quiet_op first count A S inside keeps_all keeps_held (Whole line to) quiet bounds =
     Bounds-write (Whole line to) line A A S refl bounds (λ before image a differs. keeps_all before image a (quiet_differs first count line to before image quiet differs)) (λ before image s differs. keeps_held before image s (quiet_differs first count line to before image quiet differs)) (λ image a. a) (λ image a. a)
 quiet_op first count A S inside keeps_all keeps_held (Word line word to) quiet bounds = absurd quiet
@@ -111,20 +103,20 @@ quiet_op first count A S inside keeps_all keeps_held Fence quiet bounds = Bounds
 quiet_op first count A S inside keeps_all keeps_held Sync quiet bounds = absurd quiet
 
 -- quiet operations keep such properties
-pub quiet_bounds : {base : List Line} (past : List LogOp) (first count : ℕ) (A S : Words → Type 0) → Implies S A → KeepsOutside first count A → KeepsOutside first count S → (ops : List LogOp) → All (IsQuiet first count) ops → Bounds base past A A S → Bounds base (reverse ops ++ past) A A S
+pub quiet_bounds : {base : List Line} (past : List LogOp) (first count : ℕ) (A S : Words → Type 0) → Implies S A → KeepsOutside first count A → KeepsOutside first count S → (ops : List LogOp) → All (IsStagingOp first count) ops → Bounds base past A A S → Bounds base (reverse ops ++ past) A A S
 quiet_bounds past first count A S inside keeps_all keeps_held [] quiet bounds = bounds
 quiet_bounds {base} past first count A S inside keeps_all keeps_held (op ∷ ops) quiet bounds =
-    subst (λ (l : List LogOp). Bounds base l A A S) (sym (ap (λ (l : List LogOp). l ++ past) (reverse-cons op ops) ∙ append_assoc (reverse ops) (op ∷ []) past)) (quiet_bounds (op ∷ past) first count A S inside keeps_all keeps_held ops (All-tail (IsQuiet first count) op ops quiet) (quiet_op first count A S inside keeps_all keeps_held op (All-head (IsQuiet first count) op ops quiet) bounds))
+    subst (λ (l : List LogOp). Bounds base l A A S) (sym (ap (λ (l : List LogOp). l ++ past) (reverse-cons op ops) ∙ append_assoc (reverse ops) (op ∷ []) past)) (quiet_bounds (op ∷ past) first count A S inside keeps_all keeps_held ops (All-tail (IsStagingOp first count) op ops quiet) (quiet_op first count A S inside keeps_all keeps_held op (All-head (IsStagingOp first count) op ops quiet) bounds))
 
 -- What a store keeps while it stages
 
--- an image that stands for s
+-- an image that represents s
 abbrev pub IsOld : List Line → Standing → Words → Type 0
 IsOld base s words = Represents (image_of (length base) words) s
 
 -- an image that has the cells of the next state
 abbrev pub HasNextCells : List Line → Standing → Round → Words → Type 0
-HasNextCells base s round words = HoldCells (image_of (length base) words) (header_for s) (after_round s round).state
+HasNextCells base s round words = CellsRepresent (image_of (length base) words) (header_for s) (after_round s round).state
 
 abbrev pub place_of : Standing → Round → ℕ
 place_of s round = spare_place (header_for s) round.side (rounds_of s round.side)
@@ -139,15 +131,15 @@ keeps_old base s round count long before image stands differs =
         let fits : line < length base = omega (arith, length-image_of (length base) before) in
         elim (differs line word) [
           | inl e ↦ word_of-image_of (length base) before line word fits few ∙ (sym e ∙ sym (word_of-image_of (length base) image line word fits few))
-          | inr there ↦ absurd (spare_not_in_use s round.side (line - place_of s round) stands.valid stands.kind (omega (arith, there.0, there.1)) (subst (λ (n : ℕ). IsInUse s n) (omega (arith, there.0)) used))
+          | inr there ↦ absurd (spare_not_in_use s round.side (line - place_of s round) (parts (image_of (length base) before) s stands).valid (parts (image_of (length base) before) s stands).kind (omega (arith, there.0, there.1)) (subst (λ (n : ℕ). IsInUse s n) (omega (arith, there.0)) used))
         ]
 
 -- and neither a cell
-line_kept : (base : List Line) (first count line : ℕ) (before image : Words) → line < first → line < length base → ((l word : ℕ) → (image l word ≡ before l word) ⊎ IsIn first count l) → line_at (image_of (length base) image) line ≡ line_at (image_of (length base) before) line
+line_kept : (base : List Line) (first count line : ℕ) (before image : Words) → line < first → line < length base → ((l word : ℕ) → (image l word ≡ before l word) ⊎ IsLineFrom first count l) → line_at (image_of (length base) image) line ≡ line_at (image_of (length base) before) line
 line_kept base first count line before image low inside differs =
     line_at-image_of (length base) image line inside ∙ (line_in-same image before line (λ word few. elim (differs line word) [ inl e ↦ e | inr there ↦ absurd (omega (arith, there.0)) ]) ∙ sym (line_at-image_of (length base) before line inside))
 
-cells_kept : (base : List Line) (head : Header) (first count : ℕ) (state : State) (before image : Words) → ((position : ℕ) → kind_of state ≡ Queue → (cell_place head position < first) × (cell_place head position < length base)) → ((l word : ℕ) → (image l word ≡ before l word) ⊎ IsIn first count l) → HoldCells (image_of (length base) before) head state → HoldCells (image_of (length base) image) head state
+cells_kept : (base : List Line) (head : Header) (first count : ℕ) (state : State) (before image : Words) → ((position : ℕ) → kind_of state ≡ Queue → (cell_place head position < first) × (cell_place head position < length base)) → ((l word : ℕ) → (image l word ≡ before l word) ⊎ IsLineFrom first count l) → CellsRepresent (image_of (length base) before) head state → CellsRepresent (image_of (length base) image) head state
 cells_kept base head first count (Registers registers) before image low differs hold = tt
 cells_kept base head first count (Items size items) before image low differs hold = tt
 cells_kept base head first count (Rising size items) before image low differs hold = tt
@@ -168,6 +160,6 @@ keeps_cells base s round count long valid kind here before image hold differs =
     low position queue =
         let is_queue : s.kind ≡ Queue = sym kind ∙ (sym (after_entries-kind_of s round.entries) ∙ queue) in
         let below = cell_below (header_for s) position valid is_queue in
-        let behind = record_behind_cells (header_for s) round.side ((rounds_of s round.side + 1) % 2) in
+        let after = record_after_cells (header_for s) round.side ((rounds_of s round.side + 1) % 2) in
         let fits = record_fits (header_for s) round.side ((rounds_of s round.side + 1) % 2) valid here (parity-lt (rounds_of s round.side + 1)) in
         (omega arith, omega (arith, long))

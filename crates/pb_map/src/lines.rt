@@ -3,16 +3,16 @@ ghost use Rattle.pb_map.specs.Registers.{AreRegisters};
 ghost use Rattle.pb_object.specs.Map.{register_at};
 ghost use Rattle.pb_object.specs.MapLines.{register_in, IsRegisterAt, IsMapLine};
 ghost use Rattle.pb_object.specs.Object.{Registers};
-ghost use Rattle.pb_object.specs.ObjectLines.{StandFor, IsFirstRefused};
+ghost use Rattle.pb_object.specs.ObjectLines.{LinesRepresent, IsFirstRefused};
 
 use pb_object::{Kind, LAST_VERSION, NotAState, Register, put_register, register_in};
 use pb_pmem::Line;
 
-/// Writes the lines that stand for registers.
+/// Writes the lines that represent registers.
 pub fn put_registers(registers: &[Register], into: &mut [Line])
     requires registers { AreRegisters registers.now }
     requires count { length into.old ≡ (length registers.now + 3) / 4 }
-    ensures { StandFor into.new (Registers registers.now) }
+    ensures { LinesRepresent into.new (Registers registers.now) }
 {
     for key in 0..4 * into.len() {
         put_register(into, key, register_or_empty(registers, key));
@@ -25,12 +25,12 @@ fn register_or_empty(registers: &[Register], key: usize) -> Register
     registers.get(key).copied().unwrap_or_default()
 }
 
-/// Takes the registers that the lines stand for, or names the first line that the format refuses and takes none.
+/// Takes the registers that the lines represent, or names the first line that the format refuses and takes none.
 pub fn take_registers(registers: &mut [Register], from: &[Line]) -> Result<(), NotAState>
     requires most { length registers.old ≤ 1024 }
     requires count { length from.now ≡ (length registers.old + 3) / 4 }
     ensures { MatchResult result
-        (λ _. StandFor from.now (Registers registers.new))
+        (λ _. LinesRepresent from.now (Registers registers.new))
         (λ refused. IsFirstRefused Kind.Map (length registers.old) from.now refused.line × (registers.new ≡ registers.old)) }
 {
     if let Some(line) = first_refused(registers.len(), from) {

@@ -1,4 +1,5 @@
 pub mod Numbers
+mod KeptRequests
 mod LawLemmas
 pub mod ObjectLinesLemmas
 pub mod RisingLemmas

@@ -32,8 +32,8 @@ length-rising_of (item ∷ items) = omega (arith, length-insert_rising item (ris
 pub insert_rising-front : (item first : ℕ) (items : List ℕ) → item ≤ first → insert_rising item (first ∷ items) ≡ item ∷ first ∷ items
 insert_rising-front item first items least = grind (arith, nat_tests)
 
-pub insert_rising-behind : (item first : ℕ) (items : List ℕ) → first < item → insert_rising item (first ∷ items) ≡ first ∷ insert_rising item items
-insert_rising-behind item first items less = grind (arith, nat_tests)
+pub insert_rising-after : (item first : ℕ) (items : List ℕ) → first < item → insert_rising item (first ∷ items) ≡ first ∷ insert_rising item items
+insert_rising-after item first items less = grind (arith, nat_tests)
 
 -- no item of the list is less
 abbrev pub IsLeast : ℕ → List ℕ → Type 0
@@ -71,7 +71,7 @@ insert_rising-least item (first ∷ items) all = insert_rising-front item first 
 Rises-insert_rising : (item : ℕ) (items : List ℕ) → Rises items → Rises (insert_rising item items)
 Rises-insert_rising item [] rises = (tt, tt)
 Rises-insert_rising item (first ∷ items) rises =
-    ⊎_elim (λ less. rw (insert_rising-behind item first items less) (IsLeast-insert_rising first item items (omega arith) rises.0, Rises-insert_rising item items rises.1))
+    ⊎_elim (λ less. rw (insert_rising-after item first items less) (IsLeast-insert_rising first item items (omega arith) rises.0, Rises-insert_rising item items rises.1))
     (λ least. rw (insert_rising-front item first items least) ((least, IsLeast-lower first item items least rises.0), rises))
     (cases_lt first item)
 

@@ -73,7 +73,7 @@ abbrev pub action_side : Action → ℕ
 action_side QueueTake = 1
 action_side _ = 0
 
--- how many of the arguments a, b, c an action uses, from the front
+-- how many of the arguments a, b, c an action uses, the first ones
 abbrev pub argument_count : Action → ℕ
 argument_count Get = 1
 argument_count Put = 2

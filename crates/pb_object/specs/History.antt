@@ -7,7 +7,7 @@ use Rattle.pb_object.specs.declared.request.TheConstants.{LAST_NUMBER}
 use Rattle.pb_object.specs.Codes.{action_of, action_side}
 use Rattle.pb_object.specs.Object.{next_state, reply_of}
 use Rattle.pb_object.specs.Request.{IsOperation}
-use Rattle.pb_object.specs.Standing.{Standing, kept_of, rounds_of}
+use Rattle.pb_object.specs.Standing.{Standing, keep, kept_list_of, newest_of, rounds_of}
 
 -- a request that was applied, with its reply
 pub record Entry : Type 0 where
@@ -24,13 +24,13 @@ pub record Round : Type 0 where
 abbrev pub History : Type 0
 History = List Round
 
--- what is kept of a client behind its entry
+-- what is kept of a client after its entry
 abbrev pub kept_by : Entry → Kept
 kept_by entry = record { number = entry.number; op = entry.op; reply = entry.reply }
 
--- the standing behind an entry: the object moves on, and the entry is its client's kept one
+-- the standing after an entry: the object moves on, and the entry is its client's newest kept request
 abbrev pub after_entry : Standing → Entry → Standing
-after_entry s entry = record s { state = next_state s.state entry.op; kept = slice_set s.kept entry.client (kept_by entry) }
+after_entry s entry = record s { state = next_state s.state entry.op; kept = slice_set s.kept entry.client (keep (kept_by entry) (kept_list_of s entry.client)) }
 
 abbrev pub after_entries : Standing → List Entry → Standing
 after_entries s [] = s
@@ -43,7 +43,7 @@ count_round side s = record s { rounds = slice_set s.rounds side (rounds_of s si
 abbrev pub after_round : Standing → Round → Standing
 after_round s round = count_round round.side (after_entries s round.entries)
 
--- the standing behind a history
+-- the standing after a history
 abbrev pub state_after : Standing → History → Standing
 state_after s [] = s
 state_after s (round ∷ history) = state_after (after_round s round) history
@@ -55,7 +55,7 @@ IsOfSide side op = IsSomeAnd (action_of op.code) (λ action. action_side action 
 -- an entry that a standing may be followed by, on this side: the next number of its client, and the object's own reply
 pub record IsLegalEntry (s : Standing) (side : ℕ) (entry : Entry) : Type 0 where
   pub client : entry.client < s.clients
-  pub number : entry.number ≡ (kept_of s entry.client).number + 1
+  pub number : entry.number ≡ (newest_of s entry.client).number + 1
   pub few : entry.number ≤ LAST_NUMBER
   pub operation : IsOperation s.kind entry.op
   pub of_side : IsOfSide side entry.op

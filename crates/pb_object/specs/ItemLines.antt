@@ -1,5 +1,5 @@
 -- The object lines of a stack and of a heap: a count, and then eight items a line.
-use Rattle.std.specs.Prelude.{◌≡◌, ℕ, ◌+◌, ◌-◌, ◌/◌, ◌%◌, ◌<◌, ◌≤◌, List, length, slice_index}
+use Rattle.std.specs.Prelude.{◌≡◌, ℕ, ◌+◌, ◌-◌, ◌/◌, ◌%◌, ◌<◌, ◌≤◌, List, length, take, slice_index}
 use Rattle.pb_pmem.specs.declared.line.Line.{Line}
 use Rattle.pb_pmem.specs.Lines.{line_at, word_of}
 
@@ -7,11 +7,11 @@ use Rattle.pb_pmem.specs.Lines.{line_at, word_of}
 abbrev pub count_in : List Line → ℕ
 count_in lines = word_of lines 0 0
 
--- the item at this place of the lines: a stack's counted from the bottom, a heap's from the least
+-- the item at this place of the lines: a stack's places count from the bottom, a heap's go by its array
 abbrev pub item_in : List Line → ℕ → ℕ
 item_in lines place = word_of lines (place / 8 + 1) (place % 8)
 
--- the words behind the first are 0
+-- the words after the first are 0
 abbrev pub HasOneWord : Line → Type 0
 HasOneWord line = (word : ℕ) → 0 < word → word < 8 → slice_index line.words word ≡ 0
 
@@ -20,11 +20,11 @@ pub record IsCountLine (size : ℕ) (line : Line) : Type 0 where
   pub count : slice_index line.words 0 ≤ size
   pub rest : HasOneWord line
 
--- what the format allows at this place of a stack: behind its items zeros
+-- what the format allows at this place of a stack: after its items zeros
 pub record IsStackPlace (lines : List Line) (place : ℕ) : Type 0 where
   pub unused : count_in lines ≤ place → item_in lines place ≡ 0
 
--- what the format allows at this place of a heap: behind its items zeros, and no item that is less than its parent
+-- what the format allows at this place of a heap: after its items zeros, and no item that is less than its parent
 pub record IsHeapPlace (lines : List Line) (place : ℕ) : Type 0 where
   pub unused : count_in lines ≤ place → item_in lines place ≡ 0
   pub ordered : 0 < place → place < count_in lines → item_in lines ((place - 1) / 2) ≤ item_in lines place
@@ -35,6 +35,12 @@ pub record IsItemLine (IsPlace : List Line → ℕ → Type 0) (size : ℕ) (lin
   pub places : (place : ℕ) → place / 8 + 1 ≡ line → IsPlace lines place
 
 -- the lines hold these items, in this order
-pub record HoldItems (lines : List Line) (items : List ℕ) : Type 0 where
+pub record WordsRepresentItems (lines : List Line) (items : List ℕ) : Type 0 where
   pub count : length items ≡ count_in lines
   pub each : (place : ℕ) → place < length items → slice_index items place ≡ item_in lines place
+
+-- what is read from lines that the format allows: so many of the places are taken, and hold the items
+pub record TakesItems (IsPlace : List Line → ℕ → Type 0) (places : List ℕ) (count : ℕ) (lines : List Line) : Type 0 where
+  pub allowed : (line : ℕ) → line < length lines → IsItemLine IsPlace (length places) lines line
+  pub within : count ≤ length places
+  pub held : WordsRepresentItems lines (take count places)

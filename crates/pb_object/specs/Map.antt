@@ -28,7 +28,7 @@ abbrev pub write_reply : Register → Reply
 write_reply register =
     if nat_lt register.version last_version then reply Was register.value (register.version + 1) else reply Worn 0 0
 
--- the register behind a write
+-- the register after a write
 abbrev pub after_write : ℕ → Register → Register
 after_write value register =
     if nat_lt register.version last_version then record { value = value; version = register.version + 1 } else register

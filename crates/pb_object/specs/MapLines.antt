@@ -8,7 +8,7 @@ use Rattle.pb_object.specs.Map.{Register, empty_register, last_version, register
 abbrev pub register_in : List Line → ℕ → Register
 register_in lines key = record { value = word_of lines (key / 4) (2 * (key % 4)); version = word_of lines (key / 4) (2 * (key % 4) + 1) }
 
--- what the format allows at this place of a map: at most the last version, without a version no value, and behind the size zeros
+-- what the format allows at this place of a map: at most the last version, without a version no value, and after the size zeros
 pub record IsRegisterAt (size key : ℕ) (register : Register) : Type 0 where
   pub last : register.version ≤ last_version
   pub unwritten : register.version ≡ 0 → register.value ≡ 0
@@ -19,5 +19,5 @@ abbrev pub IsMapLine : ℕ → List Line → ℕ → Type 0
 IsMapLine size lines line = (key : ℕ) → key / 4 ≡ line → IsRegisterAt size key (register_in lines key)
 
 -- the lines hold these registers
-abbrev pub HoldRegisters : List Line → List Register → Type 0
-HoldRegisters lines registers = (key : ℕ) → key < length registers → register_at registers key ≡ register_in lines key
+abbrev pub WordsRepresentRegisters : List Line → List Register → Type 0
+WordsRepresentRegisters lines registers = (key : ℕ) → key < length registers → register_at registers key ≡ register_in lines key

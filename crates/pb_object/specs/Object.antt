@@ -23,7 +23,7 @@ start_state Stack size = Items size []
 start_state Heap size = Rising size []
 start_state Queue size = Waits size empty_queue
 
--- the state behind an operation
+-- the state after an operation
 abbrev pub next_state : State → Op → State
 next_state (Registers registers) op = Registers (next_registers registers op)
 next_state (Items size items) op = Items size (next_items size items op)

@@ -1,12 +1,12 @@
--- What the object lines of a record stand for, and which of them the format refuses.
+-- What the object lines of a record represent, and which of them the format refuses.
 use Rattle.std.specs.Prelude.{◌≡◌, ℕ, ◌+◌, ◌-◌, ◌/◌, ◌<◌, ◌≤◌, List, length}
 use Rattle.pb_pmem.specs.declared.line.Line.{Line}
 use Rattle.pb_pmem.specs.Lines.{line_at, word_of}
 use Rattle.pb_object.specs.declared.kind.Kind.{Kind}
 use Rattle.pb_object.specs.declared.kind.Kind.TheVariants.{Map, Stack, Heap, Queue}
 use Rattle.pb_object.specs.Heap.{rising_of}
-use Rattle.pb_object.specs.ItemLines.{HasOneWord, IsItemLine, IsStackPlace, IsHeapPlace, HoldItems}
-use Rattle.pb_object.specs.MapLines.{IsMapLine, HoldRegisters}
+use Rattle.pb_object.specs.ItemLines.{HasOneWord, IsItemLine, IsStackPlace, IsHeapPlace, WordsRepresentItems}
+use Rattle.pb_object.specs.MapLines.{IsMapLine, WordsRepresentRegisters}
 use Rattle.pb_object.specs.Object.{State, Registers, Items, Rising, Waits}
 use Rattle.pb_object.specs.Queue.{last_position, tail_of}
 
@@ -55,14 +55,14 @@ size_of (Rising size items) = size
 size_of (Waits size queue) = size
 
 -- what the words of the lines say of a state. A heap's items may lie in any order that the lines allow; of a queue the lines say the tail and the head
-abbrev pub Hold : List Line → State → Type 0
-Hold lines (Registers registers) = HoldRegisters lines registers
-Hold lines (Items size items) = HoldItems lines items
-Hold lines (Rising size rising) = (items : List ℕ) × HoldItems lines items × (rising ≡ rising_of items)
-Hold lines (Waits size queue) = (tail_of queue ≡ word_of lines 0 0) × (queue.taken ≡ word_of lines 1 0)
+abbrev pub WordsRepresent : List Line → State → Type 0
+WordsRepresent lines (Registers registers) = WordsRepresentRegisters lines registers
+WordsRepresent lines (Items size items) = WordsRepresentItems lines items
+WordsRepresent lines (Rising size rising) = (items : List ℕ) × WordsRepresentItems lines items × (rising ≡ rising_of items)
+WordsRepresent lines (Waits size queue) = (tail_of queue ≡ word_of lines 0 0) × (queue.taken ≡ word_of lines 1 0)
 
--- the object lines of all sides stand for a state: they are as many as its kind and size have, the format allows each, and they hold it
-pub record StandFor (lines : List Line) (state : State) : Type 0 where
+-- the object lines of all sides represent a state: they are as many as its kind and size have, the format allows each, and they hold it
+pub record LinesRepresent (lines : List Line) (state : State) : Type 0 where
   pub count : length lines ≡ object_lines_of_all_sides (kind_of state) (size_of state)
   pub allowed : (line : ℕ) → line < length lines → IsAllowedLine (kind_of state) (size_of state) lines line
-  pub hold : Hold lines state
+  pub hold : WordsRepresent lines state

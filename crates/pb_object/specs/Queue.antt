@@ -1,4 +1,4 @@
--- The bounded queue: how many items were ever taken, and those still in it, front to back.
+-- The bounded queue: how many items were ever taken, and those still in it, from the head to the tail.
 use Rattle.std.specs.Prelude.{ℕ, ◌+◌, List, [], ◌∷◌, ◌++◌, Option, Some, if◌then◌else◌, nat_lt, length}
 use Rattle.pb_object.specs.declared.codes.Action.{Action}
 use Rattle.pb_object.specs.declared.codes.Action.TheVariants.{QueuePut, QueueTake}
@@ -41,12 +41,12 @@ queue_reply_by (Some QueuePut) size queue op = put_reply size queue
 queue_reply_by (Some QueueTake) size queue op = take_reply queue.taken queue.items
 queue_reply_by _ size queue op = no_reply
 
--- the queue behind a take
+-- the queue after a take
 abbrev pub after_take : ℕ → List ℕ → Waiting
 after_take taken [] = record { taken = taken; items = [] }
 after_take taken (item ∷ items) = record { taken = taken + 1; items = items }
 
--- the queue behind a put that was answered so
+-- the queue after a put that was answered so
 abbrev pub after_put : ℕ → Waiting → ℕ → Waiting
 after_put size queue item =
     if nat_lt (length queue.items) size

@@ -7,7 +7,7 @@ use Rattle.pb_object.specs.declared.request.Reply.{Reply}
 use Rattle.pb_object.specs.declared.request.Kept.{Kept}
 use Rattle.pb_object.specs.Codes.{action_of, action_kind, argument_count, answer_code}
 
--- the arguments behind the first so many are 0
+-- the arguments after the first so many are 0
 pub record LeavesUnusedZero (used : ℕ) (op : Op) : Type 0 where
   pub a : used < 1 → op.a ≡ 0
   pub b : used < 2 → op.b ≡ 0

@@ -6,7 +6,7 @@ use Rattle.pb_object.specs.declared.request.Op.{Op}
 use Rattle.pb_object.specs.declared.request.Reply.{Reply}
 use Rattle.pb_object.specs.Codes.{action_of, action_word, argument_count, answer_of, answer_word, value_count}
 
--- each number in decimal, behind a space
+-- each number in decimal, after a space
 abbrev pub spaced : List ℕ → List ℕ
 spaced [] = []
 spaced (n ∷ ns) = codes " " ++ (decimal n ++ spaced ns)

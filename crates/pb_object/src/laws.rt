@@ -3,8 +3,10 @@ ghost use Rattle.std.specs.Prelude.{◌≡◌, ◌+◌, ◌<◌, ◌≤◌, leng
 ghost use Rattle.std.specs.List.{All};
 ghost use Rattle.pb_object.specs.declared.codes.Action.TheVariants.{Put, Push, Pop, RemoveMin, QueuePut, QueueTake};
 ghost use Rattle.pb_object.specs.Codes.{action_of};
-ghost use Rattle.pb_object.specs.Laws.{PutChangesItsRegister, PopUndoesPush, RemoveMinsRise, ItemsComeOutInOrder};
+ghost use Rattle.pb_object.specs.History.{History};
+ghost use Rattle.pb_object.specs.Laws.{PutChangesItsRegister, PopUndoesPush, RemoveMinsRise, ItemsComeOutInOrder, KeepsTheLastEight};
 ghost use Rattle.pb_object.specs.Queue.{tail_of, last_position};
+ghost use Rattle.pb_object.specs.Standing.{Standing};
 
 use crate::map::Register;
 use crate::queue::PlainQueue;
@@ -37,4 +39,10 @@ pub fn items_come_out_in_order(size: u32, queue: &PlainQueue, puts: &[Op], take:
     requires room { length queue.now.items + length puts.now ≤ size }
     requires positions { tail_of queue.now + length puts.now ≤ last_position }
     ensures { ItemsComeOutInOrder size queue.now puts.now take.now }
+{}
+
+/// After a history each client's kept requests are its last eight with their replies, the newest first: those of the history, and then
+/// those before it.
+pub fn the_last_eight_are_kept()
+    ensures { (s : Standing) (history : History) → KeepsTheLastEight s history }
 {}

@@ -58,7 +58,7 @@ pub fn put_item(into: &mut [Line], place: usize, item: u64)
     line.words[place % 8] = item;
 }
 
-/// Writes items to a stack's or a heap's lines: their count, the items in this order, and zeros behind them.
+/// Writes items to a stack's or a heap's lines: their count, the items in this order, and zeros after them.
 pub fn put_items(items: &[u64], into: &mut [Line])
     requires count_line { 0 < length into.old }
     requires room { length items.now ≤ 8 * (length into.old - 1) }

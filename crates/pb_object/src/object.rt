@@ -2,7 +2,7 @@ ghost use Rattle.std.specs.Prelude.{◌≡◌, ◌≢◌, ◌≤◌, ◌↔◌, 
 ghost use Rattle.pb_object.specs.declared.kind.Kind.{Kind};
 ghost use Rattle.pb_object.specs.declared.kind.Kind.TheVariants.{Queue};
 ghost use Rattle.pb_object.specs.Object.{State, start_state, next_state, reply_of};
-ghost use Rattle.pb_object.specs.ObjectLines.{kind_of, size_of, object_line_count, StandFor, IsFirstRefused};
+ghost use Rattle.pb_object.specs.ObjectLines.{kind_of, size_of, object_line_count, LinesRepresent, IsFirstRefused};
 ghost use Rattle.pb_object.specs.Request.{IsOperation};
 
 use crate::kind::Kind;
@@ -10,7 +10,7 @@ use crate::request::{Op, Reply, is_operation};
 use pb_pmem::Line;
 use std::alloc::{AllocError, Global};
 
-/// Object lines that stand for no state.
+/// Object lines that represent no state.
 #[derive(Clone, Copy, Debug, PartialEq, Eq)]
 pub struct NotAState {
     /// The place of the first line that the format refuses.
@@ -59,19 +59,19 @@ pub trait Object: Sized + Drop {
         requires { size_of (state self.old) ≡ size_of (state from.now) }
         ensures { state self.new ≡ state from.now };
 
-    /// How many object lines stand for an object of this kind and size.
+    /// How many object lines represent an object of this kind and size.
     fn lines(&self) -> u32
         ensures { result ≡ object_line_count KIND (size_of (state self.now)) };
 
-    /// Writes lines that stand for the state.
+    /// Writes lines that represent the state.
     fn put_lines(&self, into: &mut [Line])
         requires { length into.old ≡ object_line_count KIND (size_of (state self.now)) }
-        ensures { StandFor into.new (state self.now) };
+        ensures { LinesRepresent into.new (state self.now) };
 
-    /// Takes the state that the lines stand for, or names the first line that the format refuses. After an error the state is as before.
+    /// Takes the state that the lines represent, or names the first line that the format refuses. After an error the state is as before.
     fn take_lines(&mut self, from: &[Line]) -> Result<(), NotAState>
         requires { length from.now ≡ object_line_count KIND (size_of (state self.old)) }
-        ensures taken { OnOk result (StandFor from.now (state self.new)) }
+        ensures taken { OnOk result (LinesRepresent from.now (state self.new)) }
         ensures size { size_of (state self.new) ≡ size_of (state self.old) }
         ensures refused { IfErr result (λ refused. IsFirstRefused KIND (size_of (state self.old)) from.now refused.line) }
         ensures err { OnErr result (state self.new ≡ state self.old) };

@@ -7,10 +7,10 @@ use std::alloc::{AllocError, Global};
 use std::collections::VecDeque;
 use std::marker::Model;
 
-/// The last position that a queue can reach: 2^62. Behind it the queue is worn: nothing more is put.
+/// The last position that a queue can reach: 2^62. After it the queue is worn: nothing more is put.
 pub const LAST_POSITION: u64 = 4611686018427387904;
 
-/// The plain state of a queue: a count of the items ever taken, and the items still in it, front to back.
+/// The plain state of a queue: a count of the items ever taken, and the items still in it, from the head to the tail.
 #[derive(Drop)]
 pub struct PlainQueue {
     taken: u64,

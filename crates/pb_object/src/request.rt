@@ -8,6 +8,9 @@ use crate::kind::Kind;
 /// The last number that a request can have: 2^56 - 1.
 pub const LAST_NUMBER: u64 = 72057594037927935;
 
+/// How many requests are kept of each client: its last recorded ones.
+pub const KEPT_REQUESTS: u32 = 8;
+
 /// An operation: its code and its arguments. What an argument means goes by the code, and unused ones are 0.
 #[derive(Clone, Copy, Debug, Default, PartialEq, Eq)]
 pub struct Op {
@@ -56,7 +59,7 @@ pub struct Ask {
     pub op: Op,
 }
 
-/// A client's last recorded request with its reply. Number 0 means none, and then all is 0.
+/// A recorded request of a client with its reply. Number 0 means none, and then all is 0.
 #[derive(Clone, Copy, Debug, Default, PartialEq, Eq)]
 pub struct Kept {
     pub number: u64,

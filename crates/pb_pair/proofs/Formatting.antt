@@ -1,19 +1,22 @@
--- The operations of formatting a region with one side.
-use Rattle.std.proofs.Common.{◌≡◌, ◌≢◌, List, [], ◌∷◌, ◌++◌, refl, ap, ◌∙◌}
-use Rattle.std.specs.Prelude.{◌==◌, if◌then◌else◌}
+-- The operations of formatting.
+use Rattle.std.proofs.Common.{◌≡◌, ◌≢◌, ℕ, List, [], Option, Some, None, IfSome, inr, refl, sym, ap, subst, ◌∙◌}
 use Rattle.pb_pmem.specs.declared.line.Line.{Line}
 use Rattle.pb_pmem.specs.declared.log.LogOp.{LogOp}
-use Rattle.pb_pmem.specs.declared.log.LogOp.TheVariants.{Whole, Back, Fence}
-use Rattle.pb_pmem.specs.Lines.{zero_line}
+use Rattle.pb_pmem.specs.Device.{Device, Reads}
+use Rattle.pb_pmem.specs.Lines.{line_at}
+use Rattle.pb_pmem.specs.Operations.{writes_from, Does, Stops, IsFailedPrefixOfTwo}
+use Rattle.pb_pmem.proofs.OperationSteps.{does_none, stops_weaker}
+use Rattle.pb_pmem.proofs.WrittenLines.{writes_from-none}
 use Rattle.pb_object.specs.declared.kind.Kind.{Kind}
 use Rattle.pb_object.specs.declared.kind.Kind.TheVariants.{Map, Stack, Heap, Queue}
 use Rattle.pb_object.specs.Standing.{side_count}
 use Rattle.pb_layout.specs.declared.header.Header.{Header}
-use Rattle.pb_layout.specs.Header.{record_length}
-use Rattle.pb_layout.specs.Region.{record_place}
-use Rattle.pb_layout_laws.specs.Calls.{writes_from, header_words, preparing}
-use Rattle.pb_pair.specs.Format.{front_ops, write_backs}
-use Rattle.pb_pair.proofs.Writes.{writes-none}
+use Rattle.pb_layout.specs.declared.header.TheConstants.{MAGIC}
+use Rattle.pb_layout.specs.Damage.{HasRegion}
+use Rattle.pb_layout.specs.Header.{word}
+use Rattle.pb_layout.specs.RegionOps.{prepare_ops, publish_ops}
+use Rattle.pb_pair.specs.declared.why.Stop.TheVariants.{Fault}
+use Rattle.pb_pair.specs.Format.{IsFailedFormat, IsFormatStop}
 
 -- a kind that isn't a queue has one side
 pub one_side : (kind : Kind) → kind ≢ Queue → side_count kind ≡ 1
@@ -22,16 +25,19 @@ one_side Stack other = refl
 one_side Heap other = refl
 one_side Queue other = absurd (other refl)
 
-no_second : (kind : Kind) (ops : List LogOp) → kind ≢ Queue → (if side_count kind == 2 then ops else []) ≡ []
-no_second Map ops other = refl
-no_second Stack ops other = refl
-no_second Heap ops other = refl
-no_second Queue ops other = absurd (other refl)
+-- and writes no second record
+pub no_writes : (first : ℕ) (lines : List Line) (device : Device) → lines ≡ [] → Does (writes_from first lines) device device
+no_writes first lines device none =
+    subst (λ (l : List LogOp). Does l device device) (sym (ap (writes_from first) none ∙ writes_from-none first)) (does_none device)
 
--- all but the magic: the first record, the front, and what is given to the device
-pub preparing_one : (head : Header) (first : List Line) → head.kind ≢ Queue → preparing head first [] ≡ writes_from (record_place head 0 0) first ++ (front_ops head ++ write_backs head)
-preparing_one head first other =
-    let writes = writes_from (record_place head 0 0) first in
-    let second : List LogOp = Back (record_place head 1 0) (record_length head) ∷ [] in
-    ap (λ (none : List LogOp). writes ++ (none ++ (Whole 1 zero_line ∷ Whole 2 zero_line ∷ (header_words head ++ (Back 0 3 ∷ Back (record_place head 0 0) (record_length head) ∷ ((if side_count head.kind == 2 then second else []) ++ Fence ∷ [])))))) (writes-none (record_place head 1 0))
-    ∙ ap (λ (back : List LogOp). writes ++ (front_ops head ++ (Back 0 3 ∷ Back (record_place head 0 0) (record_length head) ∷ (back ++ Fence ∷ [])))) (no_second head.kind second other)
+-- a device that isn't a region's
+pub no_region : (now : Option (List Line)) (line : Line) → word line 0 ≢ MAGIC → IfSome now (λ lines. line ≡ line_at lines 0) → IfSome now (λ lines. ¬ HasRegion lines)
+no_region None line other read = tt
+no_region (Some lines) line other read = λ has. other (ap (λ (l : Line). word l 0) read ∙ has)
+
+-- formatting that stopped after its first read
+pub stopped : (head : Header) (first second : List Line) (old mid new : Device) (line : Line) → Reads 0 line old mid → word line 0 ≢ MAGIC → Stops (IsFailedPrefixOfTwo (prepare_ops head first second) publish_ops) mid new → IsFormatStop head first second old new Fault
+stopped head first second old mid new line read other stops = (
+  stops_weaker (IsFailedPrefixOfTwo (prepare_ops head first second) publish_ops) (IsFailedFormat head first second) old new (λ ops cut. inr cut) (subst (λ (d : Device). Stops (IsFailedPrefixOfTwo (prepare_ops head first second) publish_ops) d new) read.same stops),
+  inr (no_region old.now line other read.content),
+)

@@ -1,8 +1,11 @@
+pub mod Changes
 pub mod Formatted
 pub mod Formatting
-pub mod Front
 pub mod Opened
+pub mod Pairs
 pub mod Reopened
 pub mod Safe
-pub mod Steps
-pub mod Writes
+pub mod Settled
+pub mod Stored
+pub mod Tests
+pub mod Untouched

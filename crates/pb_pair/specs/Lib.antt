@@ -1,4 +1,4 @@
-pub mod Calls
+pub mod Cells
 pub mod Format
 pub mod Open
 pub mod Reading
@@ -6,3 +6,4 @@ pub mod Safe
 pub mod Settle
 pub mod Store
 pub mod View
+pub mod Why

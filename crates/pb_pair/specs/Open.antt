@@ -1,17 +1,17 @@
 -- Opening a region.
-use Rattle.std.specs.Prelude.{◌≡◌, ◌⊎◌, ℕ, ◌<◌, List, IfSome}
+use Rattle.std.specs.Prelude.{◌≡◌, ℕ, ◌<◌, List, None, IfSome}
 use Rattle.pb_pmem.specs.declared.device.DeviceFault.{DeviceFault}
 use Rattle.pb_pmem.specs.declared.line.Line.{Line}
 use Rattle.pb_pmem.specs.Device.{Device, Fails, IsNoOp}
-use Rattle.pb_pmem.specs.Lines.{line_at}
-use Rattle.pb_object.specs.declared.kind.Kind.TheVariants.{Queue}
 use Rattle.pb_object.specs.Standing.{side_count}
 use Rattle.pb_layout.specs.Damage.{HasRegion, AllPass, IsFirstNamed, opening_checks, header_in, round_in, record_in}
-use Rattle.pb_layout.specs.Header.{IsHeaderLine}
 use Rattle.pb_pair.specs.declared.known.Known.TheVariants.{Opened}
+use Rattle.pb_pair.specs.declared.open.Region.{Region}
+use Rattle.pb_pair.specs.declared.why.Stop.{Stop}
+use Rattle.pb_pair.specs.declared.why.Stop.TheVariants.{NoMemory, Fault, WasTaken, WasEmpty, BadLine}
 use Rattle.pb_pair.specs.declared.why.Why.{Why}
 use Rattle.pb_pair.specs.declared.why.Why.TheVariants.{Memory, Device as DeviceWhy, Taken, NoRegion, Damaged}
-use Rattle.pb_pair.specs.View.{PairView, IsPair, round_of, lines_of}
+use Rattle.pb_pair.specs.View.{PairView, IsPair, HasRoom, pair_view, round_of, lines_of}
 
 -- a pair that says what the lines say, which pass all checks that opening makes
 pub record IsReadFrom (pair : PairView) (image : List Line) : Type 0 where
@@ -26,15 +26,12 @@ pub record IsOpened (device : Device) (pair : PairView) : Type 0 where
   pub same : pair.device ≡ device
   pub read : IfSome device.now (IsReadFrom pair)
   pub known : pair.known ≡ Opened
+  pub doubt : pair.doubt ≡ None
 
--- the region is a queue's, which has no pair yet
-abbrev pub IsOfQueue : List Line → Type 0
-IsOfQueue image = IsHeaderLine (line_at image 0) × ((header_in image).kind ≡ Queue)
-
--- the region is damaged, and this is the first line that opening refuses: of a queue's region the header's, whatever stands behind it
+-- the region is damaged, and this is the first line that opening refuses
 pub record IsRefusedAt (line : ℕ) (image : List Line) : Type 0 where
   pub region : HasRegion image
-  pub first : (¬ IsOfQueue image × IsFirstNamed (opening_checks image) line) ⊎ (IsOfQueue image × (line ≡ 0))
+  pub first : IsFirstNamed (opening_checks image) line
 
 -- a read failed
 pub record HasFailedRead (fault : DeviceFault) (old new : Device) : Type 0 where
@@ -49,3 +46,16 @@ IsOpenRefusal old new (DeviceWhy fault) = HasFailedRead fault old new
 IsOpenRefusal old new Taken = ⊥
 IsOpenRefusal old new NoRegion = (new ≡ old) × IfSome old.now (λ lines. ¬ HasRegion lines)
 IsOpenRefusal old new (Damaged line) = (new ≡ old) × IfSome old.now (IsRefusedAt line)
+
+-- the same, where opening stopped
+abbrev pub IsOpenStop : Device → Device → Stop → Type 0
+IsOpenStop old new NoMemory = new ≡ old
+IsOpenStop old new Fault = Fails IsNoOp old new
+IsOpenStop old new WasTaken = ⊥
+IsOpenStop old new WasEmpty = (new ≡ old) × IfSome old.now (λ lines. ¬ HasRegion lines)
+IsOpenStop old new (BadLine line) = (new ≡ old) × IfSome old.now (IsRefusedAt line)
+
+-- what was read of a region
+pub record HasReadRegion (region : Region) (old new : Device) : Type 0 where
+  pub opened : IsOpened old (pair_view new region.head region.sides Opened None)
+  pub room : HasRoom region.sides

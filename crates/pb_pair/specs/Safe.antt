@@ -1,107 +1,118 @@
--- What a crash leaves behind a call of a pair, where the device tells its log.
-use Rattle.std.specs.Prelude.{◌≡◌, ◌⊎◌, ℕ, ◌+◌, ◌<◌, List, [], ◌∷◌, Option, Some, None, IfSome}
+-- What a crash leaves after a call of a pair, where the device tells its log.
+use Rattle.std.specs.Prelude.{◌≡◌, ◌⊎◌, ℕ, ◌≤◌, ◌<◌, true, false, List, [], ◌∷◌, Option, Some, None, IfSome, length}
 use Rattle.pb_pmem.specs.declared.line.Line.{Line}
-use Rattle.pb_pmem.specs.declared.log.LogOp.{LogOp}
-use Rattle.pb_pmem.specs.Contents.{contents}
 use Rattle.pb_pmem.specs.Device.{Device, Tale}
 use Rattle.pb_object.specs.History.{Round, after_round}
+use Rattle.pb_object.specs.ObjectLines.{LinesRepresent}
 use Rattle.pb_object.specs.Standing.{Standing, rounds_of}
-use Rattle.pb_layout.specs.LogHistory.{LoggedRound, rounds_in}
-use Rattle.pb_layout.specs.Ready.{IsReady}
-use Rattle.pb_layout.specs.Represents.{Represents, header_for}
 use Rattle.pb_layout.specs.declared.header.Header.{Header}
-use Rattle.pb_layout_laws.specs.Exits.{AlwaysStandFor, IsExit, AreEmptyRecords, empty_for, sealed_round}
-use Rattle.pb_layout_laws.specs.NextRecord.{IsNextRecord, HasCells}
-use Rattle.pb_layout_laws.specs.Calls.{IsCutOff, staging, switching, spare_place}
-use Rattle.pb_pair.specs.Calls.{with_ops, IsCutBehind}
-use Rattle.pb_pair.specs.View.{PairView, round_of}
+use Rattle.pb_layout.specs.Doubt.{either_state, IsRoundInDoubt, HasRoundLanded}
+use Rattle.pb_layout.specs.Exits.{AreEmptyRecords, empty_for, sealed_round}
+use Rattle.pb_layout.specs.LogHistory.{AreSealed, history_of}
+use Rattle.pb_layout.specs.NextRecord.{IsNextRecord, HasCells}
+use Rattle.pb_layout.specs.Recovered.{Represents}
+use Rattle.pb_layout.specs.Represents.{header_for, object_parts}
+use Rattle.pb_layout.specs.ToldExits.{IsCoveredExit, HasPublished, IsInDoubt, contents_of, IsReadyWith}
+use Rattle.pb_pair.specs.Settle.{was_called}
+use Rattle.pb_pair.specs.View.{DoubtView, PairView, round_of, lines_of}
 
--- behind a call the log is longer by some operations: they are covered from s on by this history, and leave the device ready with these
-pub record IsLeftSafe (tale : Tale) (new : Device) (s : Standing) (history : List LoggedRound) (members : List (Option Standing)) : Type 0 where
-  pub ops : List LogOp
-  pub told : new.told ≡ Some (with_ops ops tale)
-  pub exit : IsExit tale.base tale.log ops s history members
-
--- what a device holds that tells its log
-abbrev pub held : Tale → List Line
-held tale = contents tale.base tale.log
-
-abbrev pub IsReadyWith : List (Option Standing) → Tale → Type 0
-IsReadyWith members tale = IsReady tale.base tale.log members
+-- Formatting
 
 -- a device that was ready with no region has the empty one, alone
-abbrev pub FormatsSafely : Header → List Line → List Line → Device → Device → Type 0
-FormatsSafely head first second old new =
-    AreEmptyRecords head first second
-    → IfSome old.told (λ tale. IsReadyWith (None ∷ []) tale → IsLeftSafe tale new (empty_for head) [] (Some (empty_for head) ∷ []))
-
--- it holds the empty region, which a crash may take back
-pub record HasAppeared (tale : Tale) (new : Device) (head : Header) : Type 0 where
-  pub left : IsLeftSafe tale new (empty_for head) [] (None ∷ Some (empty_for head) ∷ [])
-  pub holds : IfSome new.told (λ after. Represents (held after) (empty_for head))
+abbrev pub FormatCovers : Header → List Line → List Line → Device → Device → Type 0
+FormatCovers head first second old new =
+    AreEmptyRecords head first second → (tale : Tale) → old.told ≡ Some tale → IsReadyWith (None ∷ []) tale → IsCoveredExit tale new (empty_for head) [] (Some (empty_for head) ∷ [])
 
 -- or, where formatting failed, it still has none, alone, or holds the empty one, which a crash may take back
-abbrev pub FailsToFormatSafely : Header → List Line → List Line → Device → Device → Type 0
-FailsToFormatSafely head first second old new =
-    AreEmptyRecords head first second
-    → IfSome old.told (λ tale. IsReadyWith (None ∷ []) tale → IsLeftSafe tale new (empty_for head) [] (None ∷ []) ⊎ HasAppeared tale new head)
+abbrev pub FailedFormatCovers : Header → List Line → List Line → Device → Device → Type 0
+FailedFormatCovers head first second old new =
+    AreEmptyRecords head first second → (tale : Tale) → old.told ≡ Some tale → IsReadyWith (None ∷ []) tale → IsCoveredExit tale new (empty_for head) [] (None ∷ []) ⊎ HasPublished tale new head
 
--- a pair of a region that stands for s
+-- a pair of a region that represents s
 pub record IsPairOf (pair : PairView) (s : Standing) : Type 0 where
   pub head : pair.head ≡ header_for s
   pub rounds : (side : ℕ) → side < 2 → round_of pair side ≡ rounds_of s side
+
+-- Putting a cell
+
+-- a pair whose records in use represent the state of s
+pub record IsPutOf (pair : PairView) (s : Standing) : Type 0 where
+  pub of : IsPairOf pair s
+  pub state : LinesRepresent (object_parts pair.head (lines_of pair)) s.state
+
+-- a device that was ready with s alone is so after it, whole or failed, and no round is told
+abbrev pub PutCovers : PairView → Device → Type 0
+PutCovers old new =
+    (tale : Tale) (s : Standing) → old.device.told ≡ Some tale → IsReadyWith (Some s ∷ []) tale → IsPutOf old s → IsCoveredExit tale new s [] (Some s ∷ [])
+
+-- Storing
 
 -- a store begins on a device that is ready with s alone, with the record that a round makes of its side's
 pub record IsStoreOf (pair : PairView) (side : ℕ) (lines : List Line) (s : Standing) (round : Round) (tale : Tale) : Type 0 where
   pub ready : IsReadyWith (Some s ∷ []) tale
   pub of : IsPairOf pair s
   pub side_is : round.side ≡ side
-  pub next : IsNextRecord (held tale) s round lines
+  pub next : IsNextRecord (contents_of tale) s round lines
   pub cells : HasCells tale.base tale.log s round
 
--- then it leaves the state behind the round alone, and the round is sealed
-abbrev pub StoresSafely : ℕ → List Line → PairView → Device → Type 0
-StoresSafely side lines old new =
-    IfSome old.device.told (λ tale. (s : Standing) (round : Round) → IsStoreOf old side lines s round tale → IsLeftSafe tale new s (sealed_round round ∷ []) (Some (after_round s round) ∷ []))
+-- then it leaves the state after the round alone, and the round is sealed
+abbrev pub StoreCovers : ℕ → List Line → PairView → Device → Type 0
+StoreCovers side lines old new =
+    (tale : Tale) (s : Standing) (round : Round) → old.device.told ≡ Some tale → IsStoreOf old side lines s round tale → IsCoveredExit tale new s (sealed_round round ∷ []) (Some (after_round s round) ∷ [])
 
--- its index word had been called: the round is in the history or not, and the device holds and may be found with either state
-pub record IsInDoubt (tale : Tale) (new : Device) (s : Standing) (round : Round) : Type 0 where
-  pub history : List LoggedRound
-  pub left : IsLeftSafe tale new s history (Some s ∷ Some (after_round s round) ∷ [])
-  pub rounds : (history ≡ []) ⊎ (rounds_in history ≡ round ∷ [])
+-- or, where it failed before its index word was called, the state before it, alone, whatever the lines are;
+-- and where it failed from its index word on, both states: the round is in doubt, or it is told and has landed
+pub record FailedStoreCovers (side : ℕ) (lines : List Line) (old new : PairView) : Type 0 where
+  pub stopped : was_called new.doubt ≡ false
+      → (tale : Tale) (s : Standing) → old.device.told ≡ Some tale → IsReadyWith (Some s ∷ []) tale → IsPairOf old s
+      → IsCoveredExit tale new.device s [] (Some s ∷ [])
+  pub in_doubt : was_called new.doubt ≡ true
+      → (tale : Tale) (s : Standing) (round : Round) → old.device.told ≡ Some tale → IsStoreOf old side lines s round tale
+      → IsInDoubt tale new.device s round
 
--- or, where it failed before its index word was called, the state before the round, alone
-pub record IsStopped (side : ℕ) (lines : List Line) (old : PairView) (tale : Tale) (new : Device) (s : Standing) : Type 0 where
-  pub left : IsLeftSafe tale new s [] (Some s ∷ [])
-  pub before : IsCutOff (staging (spare_place old.head side (round_of old side)) lines) left.ops
-
--- and where it failed from its index word on, both states, while the round is in doubt
-pub record IsUndecided (side : ℕ) (lines : List Line) (old : PairView) (tale : Tale) (new : Device) (s : Standing) (round : Round) : Type 0 where
-  pub doubt : IsInDoubt tale new s round
-  pub behind : IsCutBehind (staging (spare_place old.head side (round_of old side)) lines) (switching side (round_of old side + 1)) doubt.left.ops
-
--- one of these
-abbrev pub FailsToStoreSafely : ℕ → List Line → PairView → Device → Type 0
-FailsToStoreSafely side lines old new =
-    IfSome old.device.told (λ tale. (s : Standing) (round : Round) → IsStoreOf old side lines s round tale → IsStopped side lines old tale new s ⊎ IsUndecided side lines old tale new s round)
+-- Settling
 
 -- settling begins on a ready device that holds s
 pub record IsSettlingOf (pair : PairView) (s : Standing) (members : List (Option Standing)) (tale : Tale) : Type 0 where
   pub ready : IsReadyWith members tale
   pub of : IsPairOf pair s
-  pub stands : Represents (held tale) s
+  pub stands : Represents (contents_of tale) s
 
--- then it leaves s alone, and no round is recorded; or, where it failed, what it might be found with before
-abbrev pub SettlesSafely : PairView → Device → Type 0
-SettlesSafely old new =
-    IfSome old.device.told (λ tale. (s : Standing) (members : List (Option Standing)) → IsSettlingOf old s members tale → IsLeftSafe tale new s [] (Some s ∷ []))
+-- the record in doubt is that of this round, and its index word was called
+pub record IsDoubtOf (pair : PairView) (s : Standing) (round : Round) : Type 0 where
+  pub of : IsPairOf pair s
+  pub record_in_doubt : DoubtView
+  pub is : pair.doubt ≡ Some record_in_doubt
+  pub called : record_in_doubt.called ≡ true
+  pub side_is : record_in_doubt.side ≡ round.side
 
-abbrev pub FailsToSettleSafely : PairView → Device → Type 0
-FailsToSettleSafely old new =
-    IfSome old.device.told (λ tale. (s : Standing) (members : List (Option Standing)) → IsSettlingOf old s members tale → IsLeftSafe tale new s [] members)
+-- all rounds that a log told before are sealed now
+abbrev pub AllSealed : Tale → Device → Type 0
+AllSealed tale new = IfSome new.told (λ after. (from : ℕ) → from ≤ length tale.log → AreSealed (history_of after.base after.log from))
 
--- behind a call the log is longer by some operations, and at each moment of these a crash leaves what stands for s
-pub record StaysFound (tale : Tale) (new : Device) (s : Standing) : Type 0 where
-  pub ops : List LogOp
-  pub told : new.told ≡ Some (with_ops ops tale)
-  pub images : AlwaysStandFor tale.base tale.log ops s
+-- where no index word was called, settling leaves s alone, and tells no round; where one was called, it leaves the state after that
+-- round alone, and tells the round where the log didn't yet
+pub record SettleCovers (old : PairView) (new : Device) : Type 0 where
+  pub found : was_called old.doubt ≡ false
+      → (tale : Tale) (s : Standing) (members : List (Option Standing)) → old.device.told ≡ Some tale → IsSettlingOf old s members tale
+      → IsCoveredExit tale new s [] (Some s ∷ [])
+  pub decided : (tale : Tale) (s : Standing) (round : Round) → old.device.told ≡ Some tale → IsDoubtOf old s round → IsRoundInDoubt tale.base tale.log s round
+      → IsCoveredExit tale new s (sealed_round round ∷ []) (Some (after_round s round) ∷ [])
+  pub landed : (tale : Tale) (s : Standing) (round : Round) → old.device.told ≡ Some tale → IsDoubtOf old s round → HasRoundLanded tale.base tale.log s round
+      → IsCoveredExit tale new (after_round s round) [] (Some (after_round s round) ∷ [])
+  pub sealed : (tale : Tale) → old.device.told ≡ Some tale → AllSealed tale new
+
+-- the round has landed still
+pub record StaysLanded (tale : Tale) (new : Device) (s : Standing) (round : Round) : Type 0 where
+  pub left : IsCoveredExit tale new (after_round s round) [] (either_state s round)
+  pub still : IfSome new.told (λ after. HasRoundLanded after.base after.log s round)
+
+-- where settling failed, it leaves what the device might be found with before: it may be tried again
+pub record FailedSettleCovers (old : PairView) (new : Device) : Type 0 where
+  pub found : was_called old.doubt ≡ false
+      → (tale : Tale) (s : Standing) (members : List (Option Standing)) → old.device.told ≡ Some tale → IsSettlingOf old s members tale
+      → IsCoveredExit tale new s [] members
+  pub decided : (tale : Tale) (s : Standing) (round : Round) → old.device.told ≡ Some tale → IsDoubtOf old s round → IsRoundInDoubt tale.base tale.log s round
+      → IsInDoubt tale new s round
+  pub landed : (tale : Tale) (s : Standing) (round : Round) → old.device.told ≡ Some tale → IsDoubtOf old s round → HasRoundLanded tale.base tale.log s round
+      → StaysLanded tale new s round

@@ -1,15 +1,51 @@
 -- Storing a record.
-use Rattle.std.specs.Prelude.{◌≡◌, ℕ, ◌+◌, ◌<◌, List, length, slice_set}
+use Rattle.std.specs.Prelude.{◌≡◌, ℕ, suc, ◌+◌, ◌<◌, Bool, true, false, List, [], ◌∷◌, ◌++◌, drop, length, Option, Some, None, eqb, if◌then◌else◌}
+use Rattle.std.specs.Cmp.Lexicographic.{pointwise}
+use Rattle.pb_pmem.specs.declared.device.DeviceFault.{DeviceFault}
 use Rattle.pb_pmem.specs.declared.line.Line.{Line}
 use Rattle.pb_pmem.specs.declared.log.LogOp.{LogOp}
+use Rattle.pb_pmem.specs.declared.log.LogOp.TheVariants.{Whole, Back, Fence}
+use Rattle.pb_pmem.specs.Device.{Device}
+use Rattle.pb_pmem.specs.Lines.{line_at}
+use Rattle.pb_pmem.specs.Operations.{writes_from, Does, Stops, IsFailedPrefix, IsFailedPrefixAfter}
 use Rattle.pb_object.specs.Standing.{side_count}
 use Rattle.pb_layout.specs.declared.header.Header.{Header}
 use Rattle.pb_layout.specs.Header.{record_length}
 use Rattle.pb_layout.specs.Record.{IsRecord}
-use Rattle.pb_layout_laws.specs.Calls.{staging, switching, spare_place, storing}
+use Rattle.pb_layout.specs.RegionOps.{commit_ops, spare_place}
 use Rattle.pb_pair.specs.declared.known.Known.TheVariants.{Sure}
-use Rattle.pb_pair.specs.Calls.{Does, IsCutInTwo}
-use Rattle.pb_pair.specs.View.{PairView, IsPair, round_of}
+use Rattle.pb_pair.specs.declared.side.Sides.{Sides}
+use Rattle.pb_pair.specs.View.{SideView, DoubtView, PairView, IsPair, HasFailed, side_of, side_view, round_of, if_known, at_side, forgotten}
+
+-- whether two lines have the same words
+abbrev pub is_same : Line → Line → Bool
+is_same a b = pointwise eqb a.words b.words
+
+-- writes of those lines that differ from the ones that are there, in rising order, from a line on
+unfoldable pub changes_from : ℕ → List Line → List Line → List LogOp
+changes_from first before [] = []
+changes_from first before (line ∷ lines) =
+    (if is_same (line_at before 0) line then [] else Whole first line ∷ []) ++ changes_from (suc first) (drop 1 before) lines
+
+-- writes of a record's lines: of those that differ from what is known to be there, and of all where nothing is known
+abbrev pub writes_over : ℕ → Option (List Line) → List Line → List LogOp
+writes_over first None lines = writes_from first lines
+writes_over first (Some before) lines = changes_from first before lines
+
+-- the lines are written where the side's spare record is, given to the device and fenced ..
+abbrev pub stage_over : ℕ → Option (List Line) → List Line → List LogOp
+stage_over first spare lines = writes_over first spare lines ++ Back first (length lines) ∷ Fence ∷ []
+
+abbrev pub staged_ops : Header → ℕ → SideView → List Line → List LogOp
+staged_ops head side part lines = stage_over (spare_place head side part.round) part.spare lines
+
+-- .. and then the side switches to them
+abbrev pub stored_ops : Header → ℕ → SideView → List Line → List LogOp
+stored_ops head side part lines = staged_ops head side part lines ++ commit_ops side (part.round + 1)
+
+-- the side after a store: the lines are in use, and what was in use is spare
+abbrev pub stored_side : SideView → List Line → SideView
+stored_side part lines = record { round = part.round + 1; lines = lines; written = true; spare = if_known part.written part.lines }
 
 -- lines that may be stored: a whole record of this side that carries its next round
 pub record IsNext (pair : PairView) (side : ℕ) (lines : List Line) : Type 0 where
@@ -17,15 +53,51 @@ pub record IsNext (pair : PairView) (side : ℕ) (lines : List Line) : Type 0 wh
   pub long : length lines ≡ record_length pair.head
   pub own : IsRecord pair.head side (round_of pair side + 1) lines
 
--- the lines are stored: they are the record in use, and there is one round more
+-- the lines are stored: they are the record in use, and there is one round more; the other side is as before
 pub record IsStored (side : ℕ) (lines : List Line) (old new : PairView) : Type 0 where
   pub sound : IsPair new
-  pub device : Does (storing old.head side (round_of old side) lines) old.device new.device
+  pub device : Does (stored_ops old.head side (side_of old side) lines) old.device new.device
   pub head : new.head ≡ old.head
-  pub rounds : new.rounds ≡ slice_set old.rounds side (round_of old side + 1)
-  pub records : new.records ≡ slice_set old.records side lines
+  pub first : new.first ≡ at_side (stored_side old.first lines) old.first side
+  pub second : new.second ≡ at_side old.second (stored_side old.second lines) side
   pub known : new.known ≡ Sure
+  pub doubt : new.doubt ≡ None
 
--- where a store may be cut off: while the lines become durable, or behind that, from the index word on
-abbrev pub IsStoreCut : Header → ℕ → ℕ → List Line → List LogOp → Type 0
-IsStoreCut head side round lines = IsCutInTwo (staging (spare_place head side round) lines) (switching side (round + 1))
+-- a store that failed before the fence was done, or from its index word on: so says the record in doubt
+abbrev pub IsFailedStore : Header → ℕ → SideView → List Line → Bool → List LogOp → Type 0
+IsFailedStore head side part lines false ops = IsFailedPrefix (staged_ops head side part lines) ops
+IsFailedStore head side part lines true ops = IsFailedPrefixAfter (staged_ops head side part lines) (commit_ops side (part.round + 1)) ops
+
+abbrev pub doubt_of : ℕ → List Line → Bool → Option DoubtView
+doubt_of side lines called = Some (record { side = side; lines = lines; called = called })
+
+-- Within a store
+
+-- the memory of a side and the device after a whole store
+pub record StoresSide (head : Header) (side : ℕ) (lines : List Line) (old new : SideView) (before after : Device) : Type 0 where
+  pub device : Does (stored_ops head side old lines) before after
+  pub part : new ≡ stored_side old lines
+
+-- after one that failed: the lines lie in the memory of the spare record
+pub record StopsSide (head : Header) (side : ℕ) (lines kept : List Line) (called : Bool) (old new : SideView) (before after : Device) : Type 0 where
+  pub device : Stops (IsFailedStore head side old lines called) before after
+  pub round : new.round ≡ old.round
+  pub same : new.lines ≡ old.lines
+  pub kept_is : kept ≡ lines
+
+-- of both sides
+pub record StoresSides (head : Header) (side : ℕ) (lines : List Line) (old new : Sides) (before after : Device) : Type 0 where
+  pub device : Does (stored_ops head side (at_side (side_view old.first) (side_view old.second) side) lines) before after
+  pub first : side_view new.first ≡ at_side (stored_side (side_view old.first) lines) (side_view old.first) side
+  pub second : side_view new.second ≡ at_side (side_view old.second) (stored_side (side_view old.second) lines) side
+
+pub record StopsSides (head : Header) (side : ℕ) (lines : List Line) (called : Bool) (old new : Sides) (before after : Device) : Type 0 where
+  pub device : Stops (IsFailedStore head side (at_side (side_view old.first) (side_view old.second) side) lines called) before after
+  pub first : forgotten (side_view new.first) ≡ forgotten (side_view old.first)
+  pub second : forgotten (side_view new.second) ≡ forgotten (side_view old.second)
+  pub kept : at_side new.first.spare.items new.second.spare.items side ≡ lines
+
+-- a store that failed: its record is in doubt, and whether its index word had been called
+pub record HasFailedStore (side : ℕ) (lines : List Line) (old : PairView) (fault : DeviceFault) (new : PairView) : Type 0 where
+  pub called : Bool
+  pub failed : HasFailed (IsFailedStore old.head side (side_of old side) lines called) (doubt_of side lines called) old fault new

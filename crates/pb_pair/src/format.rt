@@ -1,42 +1,97 @@
 //! The operations of formatting.
-ghost use Rattle.std.specs.Prelude.{◌≡◌, ◌≢◌, ◌+◌, ◌<◌, ◌≤◌, [], ◌∷◌, ◌++◌, length, OnOk, OnErr};
+ghost use Rattle.std.specs.Prelude.{◌≡◌, ◌≢◌, ◌+◌, ◌<◌, ◌≤◌, [], ◌∷◌, ◌++◌, length, IfOk, IfErr, OnOk, OnErr};
 ghost use Rattle.pb_pmem.specs.declared.log.LogOp.{LogOp};
 ghost use Rattle.pb_pmem.specs.Lines.{zero_line};
-ghost use Rattle.pb_object.specs.declared.kind.Kind.TheVariants.{Queue};
-ghost use Rattle.pb_layout.specs.Header.{IsHeader, record_length};
-ghost use Rattle.pb_layout_laws.specs.Calls.{IsCutOff, writes_from, header_words, preparing, appearing, formatting};
-ghost use Rattle.pb_pair.specs.Calls.{Does, Stops, IsCutInTwo};
-ghost use Rattle.pb_pair.specs.Format.{front_ops, write_backs};
+ghost use Rattle.pb_pmem.specs.Operations.{IsFailedPrefix, writes_from, Does, Stops, IsFailedPrefixOfTwo};
+ghost use Rattle.pb_object.specs.Standing.{side_count};
+ghost use Rattle.pb_layout.specs.Shape.{IsHeader};
+ghost use Rattle.pb_layout.specs.Header.{record_length};
+ghost use Rattle.pb_layout.specs.Region.{record_place};
+ghost use Rattle.pb_layout.specs.RegionOps.{header_words, prepare_ops, publish_ops, format_ops};
+ghost use Rattle.pb_pair.specs.Format.{AreFirst, MakesRegion, IsFormatStop, front_ops, write_backs};
 
-use crate::calls::{make_all, write_lines};
-use pb_layout::{Header, MAGIC, count_line, first_record, record_len, record_line};
-use pb_pmem::{Line, LogOp, Pmem, PmemFault};
+use crate::side::{Side, Sides};
+use crate::why::Stop;
+use pb_layout::{Header, MAGIC, count_line, header_line, record_len, record_line};
+use pb_object::Kind;
+use pb_pmem::{Line, LogOp, Pmem, PmemFault, make_all, write_lines};
+use std::alloc::Global;
 
-/// Writes a region with one side: its first record, and then the magic.
-pub fn write_region<P: Pmem>(device: &mut P, head: &Header, first: &[Line]) -> Result<(), PmemFault>
-    requires valid { IsHeader head.now }
-    requires kind { head.now.kind ≢ Queue }
-    requires long { length first.now ≡ record_length head.now }
-    ensures ok { OnOk result (Does (formatting head.now first.now []) (P.seen device.old) (P.seen device.new)) }
-    ensures err { OnErr result
-        (Stops (IsCutInTwo (preparing head.now first.now []) appearing) (P.seen device.old) (P.seen device.new)) }
+/// Makes a region on a device that has none. Memory is taken before the first write.
+pub fn make_region<P: Pmem>(
+    alloc: Global,
+    device: &mut P,
+    head: &Header,
+    first: &[Line],
+    second: &[Line],
+) -> Result<Sides, Stop>
+    requires { AreFirst head.now first.now second.now }
+    ensures ok { IfOk result (MakesRegion head.now first.now second.now (P.seen device.old) (P.seen device.new)) }
+    ensures err { IfErr result (IsFormatStop head.now first.now second.now (P.seen device.old) (P.seen device.new)) }
 {
-    prepare(device, head, first)?;
-    appear(device)
+    let mut line = Line::default();
+    device.read(0, &mut line)?;
+    if line.words[0] == MAGIC {
+        return Err(Stop::WasTaken);
+    }
+    let first_side = Side::fresh(alloc, first, true)?;
+    let second_side = Side::fresh(alloc, second, head.kind == Kind::Queue)?;
+    write_region(device, head, first, second)?;
+    Ok(Sides {
+        first: first_side,
+        second: second_side,
+    })
 }
 
-/// Makes all but the magic durable.
-fn prepare<P: Pmem>(device: &mut P, head: &Header, first: &[Line]) -> Result<(), PmemFault>
-    requires valid { IsHeader head.now }
-    requires kind { head.now.kind ≢ Queue }
-    requires long { length first.now ≡ record_length head.now }
-    ensures ok { OnOk result (Does (preparing head.now first.now []) (P.seen device.old) (P.seen device.new)) }
+/// Writes a region: the first records of its sides, and then the magic.
+fn write_region<P: Pmem>(
+    device: &mut P,
+    head: &Header,
+    first: &[Line],
+    second: &[Line],
+) -> Result<(), PmemFault>
+    requires { AreFirst head.now first.now second.now }
+    ensures ok { OnOk result (Does (format_ops head.now first.now second.now) (P.seen device.old) (P.seen device.new)) }
     ensures err { OnErr result
-        (Stops (IsCutOff (preparing head.now first.now [])) (P.seen device.old) (P.seen device.new)) }
+        (Stops (IsFailedPrefixOfTwo (prepare_ops head.now first.now second.now) publish_ops) (P.seen device.old) (P.seen device.new)) }
+{
+    prepare(device, head, first, second)?;
+    publish(device)
+}
+
+/// Writes all but the magic, gives it to the device and fences it.
+fn prepare<P: Pmem>(
+    device: &mut P,
+    head: &Header,
+    first: &[Line],
+    second: &[Line],
+) -> Result<(), PmemFault>
+    requires { AreFirst head.now first.now second.now }
+    ensures ok { OnOk result (Does (prepare_ops head.now first.now second.now) (P.seen device.old) (P.seen device.new)) }
+    ensures err { OnErr result
+        (Stops (IsFailedPrefix (prepare_ops head.now first.now second.now)) (P.seen device.old) (P.seen device.new)) }
 {
     write_lines(device, record_line(head, 0, 0), first)?;
+    write_second(device, head, second)?;
     write_front(device, head)?;
     give(device, head)
+}
+
+/// Writes the first record of the second side, where there is one.
+fn write_second<P: Pmem>(device: &mut P, head: &Header, second: &[Line]) -> Result<(), PmemFault>
+    requires valid { IsHeader head.now }
+    requires long { 1 < side_count head.now.kind → length second.now ≡ record_length head.now }
+    requires no_second { side_count head.now.kind ≡ 1 → second.now ≡ [] }
+    ensures ok { OnOk result
+        (Does (writes_from (record_place head.now 1 0) second.now) (P.seen device.old) (P.seen device.new)) }
+    ensures err { OnErr result
+        (Stops (IsFailedPrefix (writes_from (record_place head.now 1 0) second.now)) (P.seen device.old) (P.seen device.new)) }
+{
+    if head.kind == Kind::Queue {
+        write_lines(device, record_line(head, 1, 0), second)
+    } else {
+        Ok(())
+    }
 }
 
 /// Writes the round numbers of the sides, and the header without its magic.
@@ -45,21 +100,22 @@ fn write_front<P: Pmem>(device: &mut P, head: &Header) -> Result<(), PmemFault>
     ensures ok { OnOk result
         (Does (front_ops head.now) (P.seen device.old) (P.seen device.new)) }
     ensures err { OnErr result
-        (Stops (IsCutOff (front_ops head.now)) (P.seen device.old) (P.seen device.new)) }
+        (Stops (IsFailedPrefix (front_ops head.now)) (P.seen device.old) (P.seen device.new)) }
 {
     let to = count_line(0);
+    let line = header_line(head);
     make_all(
         device,
         &[
             LogOp::Whole { line: 1, to },
             LogOp::Whole { line: 2, to },
-            header_word(1, 1),
-            header_word(2, head.kind.code()),
-            header_word(3, u64::from(head.clients)),
-            header_word(4, u64::from(head.size)),
-            header_word(5, u64::from(record_len(head))),
-            header_word(6, u64::from(first_record(head))),
-            header_word(7, 0),
+            header_word(1, line.words[1]),
+            header_word(2, line.words[2]),
+            header_word(3, line.words[3]),
+            header_word(4, line.words[4]),
+            header_word(5, line.words[5]),
+            header_word(6, line.words[6]),
+            header_word(7, line.words[7]),
         ],
     )
 }
@@ -70,29 +126,40 @@ fn header_word(word: u32, to: u64) -> LogOp
     LogOp::Word { line: 0, word, to }
 }
 
-/// Gives the front and the first record to the device, and orders them before all that follows.
+/// Gives the front and the first records to the device, and orders them before all that follows.
 fn give<P: Pmem>(device: &mut P, head: &Header) -> Result<(), PmemFault>
-    requires valid { IsHeader head.now }
-    requires kind { head.now.kind ≢ Queue }
+    requires { IsHeader head.now }
     ensures ok { OnOk result (Does (write_backs head.now) (P.seen device.old) (P.seen device.new)) }
-    ensures err { OnErr result (Stops (IsCutOff (write_backs head.now)) (P.seen device.old) (P.seen device.new)) }
+    ensures err { OnErr result (Stops (IsFailedPrefix (write_backs head.now)) (P.seen device.old) (P.seen device.new)) }
 {
-    let first = record_line(head, 0, 0);
-    let count = record_len(head);
-    make_all(
-        device,
-        &[
-            LogOp::Back { first: 0, count: 3 },
-            LogOp::Back { first, count },
-            LogOp::Fence,
-        ],
-    )
+    let front = LogOp::Back { first: 0, count: 3 };
+    let first = back_of_record(head, 0);
+    match head.kind {
+        Kind::Map => make_all(device, &[front, first, LogOp::Fence]),
+        Kind::Stack => make_all(device, &[front, first, LogOp::Fence]),
+        Kind::Heap => make_all(device, &[front, first, LogOp::Fence]),
+        Kind::Queue => make_all(
+            device,
+            &[front, first, back_of_record(head, 1), LogOp::Fence],
+        ),
+    }
+}
+
+fn back_of_record(head: &Header, side: u32) -> LogOp
+    requires valid { IsHeader head.now }
+    requires here { side < side_count head.now.kind }
+    ensures { result ≡ LogOp.Back (record_place head.now side 0) (record_length head.now) }
+{
+    LogOp::Back {
+        first: record_line(head, side, 0),
+        count: record_len(head),
+    }
 }
 
 /// Writes the magic, and waits until it is durable.
-fn appear<P: Pmem>(device: &mut P) -> Result<(), PmemFault>
-    ensures ok { OnOk result (Does appearing (P.seen device.old) (P.seen device.new)) }
-    ensures err { OnErr result (Stops (IsCutOff appearing) (P.seen device.old) (P.seen device.new)) }
+fn publish<P: Pmem>(device: &mut P) -> Result<(), PmemFault>
+    ensures ok { OnOk result (Does publish_ops (P.seen device.old) (P.seen device.new)) }
+    ensures err { OnErr result (Stops (IsFailedPrefix publish_ops) (P.seen device.old) (P.seen device.new)) }
 {
     make_all(
         device,

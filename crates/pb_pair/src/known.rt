@@ -5,6 +5,14 @@ pub enum Known {
     Sure,
     /// It was opened: it may be settled. A crash may leave another record in use until then.
     Opened,
-    /// A call failed: the device may hold the record in use or the one that was being stored.
+    /// A call failed: the device may hold the records in use, or the record of a store whose index word was called. It may be settled.
     Failed,
+}
+
+/// A failed store: its record lies in the memory of its side's spare record.
+#[derive(Clone, Copy, Debug, PartialEq, Eq)]
+pub struct Doubt {
+    pub side: u32,
+    /// Whether the index word had been called that switches the side to the record.
+    pub called: bool,
 }

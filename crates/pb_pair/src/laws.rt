@@ -1,26 +1,28 @@
-//! What opening and settling come to, one behind the other. These functions are here for their contracts.
-ghost use Rattle.std.specs.Prelude.{◌≡◌, ◌≢◌, ◌⊎◌, Option, Some, List, [], ◌∷◌};
+//! What opening, storing and settling come to, one after the other. These functions are here for their contracts.
+ghost use Rattle.std.specs.Prelude.{◌≡◌, ◌⊎◌, ℕ, Option, Some, None, List, [], ◌∷◌, true, false};
 ghost use Rattle.pb_pmem.specs.declared.device.DeviceFault.{DeviceFault};
 ghost use Rattle.pb_pmem.specs.declared.line.Line.{Line};
 ghost use Rattle.pb_pmem.specs.Device.{Device, Tale};
-ghost use Rattle.pb_object.specs.declared.kind.Kind.TheVariants.{Queue};
+ghost use Rattle.pb_pmem.specs.Operations.{IsFailedPrefix, Does, Stops};
+ghost use Rattle.pb_object.specs.History.{Round, IsLegalRound, after_round};
 ghost use Rattle.pb_object.specs.Standing.{Standing};
-ghost use Rattle.pb_layout.specs.Represents.{Represents};
-ghost use Rattle.pb_layout_laws.specs.Calls.{IsCutOff, settling};
+ghost use Rattle.pb_layout.specs.Recovered.{Represents};
+ghost use Rattle.pb_layout.specs.ToldExits.{IsReadyWith, StaysFound};
 ghost use Rattle.pb_pair.specs.declared.why.Why.{Why};
 ghost use Rattle.pb_pair.specs.declared.why.Why.TheVariants.{Memory, Device as DeviceWhy};
-ghost use Rattle.pb_pair.specs.Calls.{Does, Stops};
+ghost use Rattle.pb_pair.specs.Cells.{IsNothing, put_ops};
 ghost use Rattle.pb_pair.specs.Open.{IsOpened, IsOpenRefusal};
-ghost use Rattle.pb_pair.specs.Safe.{IsReadyWith, IsPairOf, StaysFound};
-ghost use Rattle.pb_pair.specs.View.{PairView, round_of};
+ghost use Rattle.pb_pair.specs.Safe.{IsPairOf, IsStoreOf, IsDoubtOf};
+ghost use Rattle.pb_pair.specs.Settle.{IsSettled, settled_ops, was_called};
+ghost use Rattle.pb_pair.specs.Store.{IsNext, IsStored, HasFailedStore};
+ghost use Rattle.pb_pair.specs.View.{PairView, HasFailed};
 
-/// Opening refuses a device that stands for a standing only for want of memory or by a fault.
+/// Opening refuses a device that represents a standing only for want of memory or by a fault.
 pub fn what_stands_is_opened()
     ensures { (old new : Device) (why : Why) (lines : List Line) (s : Standing)
         → IsOpenRefusal old new why
         → old.now ≡ Some lines
         → Represents lines s
-        → s.kind ≢ Queue
         → (why ≡ Memory) ⊎ ((fault : DeviceFault) × (why ≡ DeviceWhy fault)) }
 {}
 
@@ -33,13 +35,78 @@ pub fn opening_finds_what_stands()
         → IsPairOf pair s }
 {}
 
-/// Settling such a pair, wherever it stops, leaves each image standing for that standing: so opening may be stopped and repeated.
+/// Settling such a pair, wherever it stops, leaves each image representing that standing: so opening may be stopped and repeated.
 pub fn settling_keeps_what_was_found()
     ensures { (old : PairView) (new : Device) (tale : Tale) (s : Standing)
         → old.device.told ≡ Some tale
         → IsReadyWith (Some s ∷ []) tale
         → IsPairOf old s
-        → Does (settling old.head (round_of old 0) (round_of old 1)) old.device new
-        ⊎ Stops (IsCutOff (settling old.head (round_of old 0) (round_of old 1))) old.device new
+        → was_called old.doubt ≡ false
+        → Does (settled_ops old) old.device new ⊎ Stops (IsFailedPrefix (settled_ops old)) old.device new
         → StaysFound tale new s }
+{}
+
+/// A pair that stored a round's record is one of the state after the round.
+pub fn storing_moves_on()
+    ensures { (old new : PairView) (side : ℕ) (lines : List Line) (s : Standing) (round : Round) (tale : Tale)
+        → IsNext old side lines
+        → IsStored side lines old new
+        → IsStoreOf old side lines s round tale
+        → IsPairOf new (after_round s round) }
+{}
+
+/// A store that failed from its index word on has its round in doubt.
+pub fn failed_store_is_in_doubt()
+    ensures { (old new : PairView) (side : ℕ) (lines : List Line) (fault : DeviceFault) (s : Standing) (round : Round) (tale : Tale)
+        → HasFailedStore side lines old fault new
+        → IsStoreOf old side lines s round tale
+        → was_called new.doubt ≡ true
+        → IsDoubtOf new s round }
+{}
+
+/// A pair whose call failed is one of the same standing still. A failed read of a cell leaves in doubt what was so.
+pub fn failed_calls_keep_the_standing()
+    ensures read { (old new : PairView) (fault : DeviceFault) (s : Standing)
+        → HasFailed IsNothing old.doubt old fault new
+        → IsPairOf old s
+        → IsPairOf new s }
+    ensures read_in_doubt { (old new : PairView) (fault : DeviceFault) (s : Standing) (round : Round)
+        → HasFailed IsNothing old.doubt old fault new
+        → IsDoubtOf old s round
+        → IsDoubtOf new s round }
+    ensures put { (old new : PairView) (fault : DeviceFault) (s : Standing) (position value : ℕ)
+        → HasFailed (IsFailedPrefix (put_ops old.head position value)) None old fault new
+        → IsPairOf old s
+        → IsPairOf new s }
+    ensures store { (old new : PairView) (fault : DeviceFault) (s : Standing) (side : ℕ) (lines : List Line)
+        → HasFailedStore side lines old fault new
+        → IsPairOf old s
+        → IsPairOf new s }
+{}
+
+/// Where settling fails, the pair is one of the same standing, and the same is in doubt still: so it may be tried again.
+pub fn settling_may_be_tried_again()
+    ensures of { (old new : PairView) (fault : DeviceFault) (s : Standing)
+        → HasFailed (IsFailedPrefix (settled_ops old)) old.doubt old fault new
+        → IsPairOf old s
+        → IsPairOf new s }
+    ensures in_doubt { (old new : PairView) (fault : DeviceFault) (s : Standing) (round : Round)
+        → HasFailed (IsFailedPrefix (settled_ops old)) old.doubt old fault new
+        → IsDoubtOf old s round
+        → IsDoubtOf new s round }
+{}
+
+/// Settling it makes the pair one of the state after the round; where no index word was called, the pair stays one of its standing.
+pub fn settling_decides()
+    ensures decided { (old new : PairView) (s : Standing) (round : Round) (lines : List Line)
+        → IsSettled old new
+        → IsDoubtOf old s round
+        → Represents lines s ⊎ Represents lines (after_round s round)
+        → IsLegalRound s round
+        → IsPairOf new (after_round s round) }
+    ensures found { (old new : PairView) (s : Standing)
+        → IsSettled old new
+        → IsPairOf old s
+        → was_called old.doubt ≡ false
+        → IsPairOf new s }
 {}

@@ -2,13 +2,14 @@
 //! opened, settled and changed, so that a crash leaves the old record or the new one.
 #![tactic(auto)]
 
-mod calls;
+mod cells;
 mod format;
 mod known;
 pub mod laws;
 mod open;
 mod pair;
 mod settle;
+mod side;
 mod store;
 mod why;
 

@@ -1,47 +1,90 @@
 //! The operations of a store.
-ghost use Rattle.std.specs.Prelude.{◌≡◌, ◌+◌, ◌<◌, ◌≤◌, ◌++◌, length, OnOk, OnErr};
+ghost use Rattle.std.specs.Prelude.{◌≡◌, not, ◌+◌, ◌<◌, ◌≤◌, ◌++◌, length, OnOk, OnErr};
 ghost use Rattle.pb_pmem.specs.declared.line.TheConstants.{LINES};
-ghost use Rattle.pb_layout_laws.specs.Calls.{IsCutOff, staging, switching};
-ghost use Rattle.pb_pair.specs.Calls.{Does, Stops, IsCutInTwo};
+ghost use Rattle.pb_pmem.specs.Operations.{IsFailedPrefix, Does, Stops};
+ghost use Rattle.pb_layout.specs.RegionOps.{commit_ops};
+ghost use Rattle.pb_pair.specs.Store.{is_same, changes_from, writes_over, stage_over};
+ghost use Rattle.pb_pair.specs.View.{if_known};
 
-use crate::calls::{make_all, write_lines};
-use pb_pmem::{Line, LogOp, Pmem, PmemFault};
+use pb_pmem::{Line, LogOp, Pmem, PmemFault, make, make_all, write_lines};
 
-/// Stores lines as the record that begins at a line of the device, and then the index of its side.
-pub fn store_record<P: Pmem>(
+/// Gives lines to the device from a line on, and fences them. `before` is what stands there, where that is known.
+pub fn stage<P: Pmem>(
     device: &mut P,
     first: u32,
+    known: bool,
+    before: &[Line],
     lines: &[Line],
-    side: u32,
-    index: u64,
 ) -> Result<(), PmemFault>
     requires room { first + length lines.now ≤ LINES }
-    requires side { side < 2 }
+    requires before { length before.now ≡ length lines.now }
     ensures ok { OnOk result
-        (Does (staging first lines.now ++ switching side index) (P.seen device.old) (P.seen device.new)) }
+        (Does (stage_over first (if_known known before.now) lines.now) (P.seen device.old) (P.seen device.new)) }
     ensures err { OnErr result
-        (Stops (IsCutInTwo (staging first lines.now) (switching side index)) (P.seen device.old) (P.seen device.new)) }
+        (Stops (IsFailedPrefix (stage_over first (if_known known before.now) lines.now)) (P.seen device.old) (P.seen device.new)) }
 {
-    stage(device, first, lines)?;
-    switch_to(device, side, index)
-}
-
-/// Makes lines durable.
-fn stage<P: Pmem>(device: &mut P, first: u32, lines: &[Line]) -> Result<(), PmemFault>
-    requires { first + length lines.now ≤ LINES }
-    ensures ok { OnOk result (Does (staging first lines.now) (P.seen device.old) (P.seen device.new)) }
-    ensures err { OnErr result (Stops (IsCutOff (staging first lines.now)) (P.seen device.old) (P.seen device.new)) }
-{
-    write_lines(device, first, lines)?;
+    write_over(device, first, known, before, lines)?;
+    // The fence orders the record before the index word: the word can't be found without it.
     let count = lines.len() as u32;
     make_all(device, &[LogOp::Back { first, count }, LogOp::Fence])
 }
 
-/// Switches a side to the record of this index.
-fn switch_to<P: Pmem>(device: &mut P, side: u32, index: u64) -> Result<(), PmemFault>
+/// Writes lines in rising order: those that differ from what is known to be there, or all.
+fn write_over<P: Pmem>(
+    device: &mut P,
+    first: u32,
+    known: bool,
+    before: &[Line],
+    lines: &[Line],
+) -> Result<(), PmemFault>
+    requires room { first + length lines.now ≤ LINES }
+    requires before { length before.now ≡ length lines.now }
+    ensures ok { OnOk result
+        (Does (writes_over first (if_known known before.now) lines.now) (P.seen device.old) (P.seen device.new)) }
+    ensures err { OnErr result
+        (Stops (IsFailedPrefix (writes_over first (if_known known before.now) lines.now)) (P.seen device.old) (P.seen device.new)) }
+{
+    if known {
+        write_changes(device, first, before, lines)
+    } else {
+        write_lines(device, first, lines)
+    }
+}
+
+/// Writes those lines that differ from the ones that are there, in rising order.
+fn write_changes<P: Pmem>(
+    device: &mut P,
+    first: u32,
+    before: &[Line],
+    lines: &[Line],
+) -> Result<(), PmemFault>
+    requires room { first + length lines.now ≤ LINES }
+    requires before { length before.now ≡ length lines.now }
+    ensures ok { OnOk result (Does (changes_from first before.now lines.now) (P.seen device.old) (P.seen device.new)) }
+    ensures err { OnErr result
+        (Stops (IsFailedPrefix (changes_from first before.now lines.now)) (P.seen device.old) (P.seen device.new)) }
+{
+    for place in 0..lines.len() {
+        let to = lines[place];
+        if differs(&before[place], &to) {
+            let line = first + place as u32;
+            make(device, &LogOp::Whole { line, to })?;
+        }
+    }
+    Ok(())
+}
+
+fn differs(before: &Line, to: &Line) -> bool
+    ensures { result ≡ not (is_same before.now to.now) }
+{
+    *before != *to
+}
+
+/// Switches a side to the record of this index, and waits until that is durable.
+pub fn commit<P: Pmem>(device: &mut P, side: u32, index: u64) -> Result<(), PmemFault>
     requires { side < 2 }
-    ensures ok { OnOk result (Does (switching side index) (P.seen device.old) (P.seen device.new)) }
-    ensures err { OnErr result (Stops (IsCutOff (switching side index)) (P.seen device.old) (P.seen device.new)) }
+    ensures ok { OnOk result (Does (commit_ops side index) (P.seen device.old) (P.seen device.new)) }
+    ensures err { OnErr result (Stops (IsFailedPrefix (commit_ops side index)) (P.seen device.old) (P.seen device.new)) }
 {
     make_all(
         device,

@@ -6,14 +6,14 @@ use Rattle.std.proofs.lemmas.List.{append-nil, append_assoc, reverse-reverse}
 use Rattle.pb_pmem.specs.declared.line.Line.{Line}
 use Rattle.pb_pmem.specs.declared.log.LogOp.{LogOp}
 use Rattle.pb_pmem.specs.Contents.{contents}
-use Rattle.pb_pmem.specs.Crash.{is_mark, is_sync, is_back_of, marks, least_cut, through_mark, behind_mark, until_mark, backed_writes, unbacked_writes, settled_content, loose_writes, MayWrite, IsLeft}
+use Rattle.pb_pmem.specs.Crash.{is_mark, is_sync, is_back_of, marks, least_cut, through_mark, after_mark, until_mark, backed_writes, unbacked_writes, settled_content, loose_writes, MayWrite, IsCrashImage}
 use Rattle.pb_pmem.specs.Lines.{word_of}
-use Rattle.pb_pmem.specs.Past.{Words, now, Held, Last, AllHeld, AllLast, Leaves}
-use Rattle.pb_pmem.proofs.Backed.{backed_past, unbacked_past, backed_writes-past, unbacked_writes-past, IsBackedOr, Held-backed, Held-from_backed}
-use Rattle.pb_pmem.proofs.Held.{mark-writes_none, mark-no_Back, sync-is_mark, Last-cases, Last-mark, Last-more, Last-none, Last-at_none, Leaves-cases, Leaves-more, Leaves-none, Leaves-at_none, Leaves-Last}
+use Rattle.pb_pmem.specs.Past.{Words, now, AtNextMark, Last, AllAtNextMark, AllLast, Leaves}
+use Rattle.pb_pmem.proofs.Backed.{backed_past, unbacked_past, backed_writes-past, unbacked_writes-past, IsBackedOr, AtNextMark-backed, AtNextMark-from_backed}
+use Rattle.pb_pmem.proofs.AtNextMark.{mark-writes_none, mark-no_Back, sync-is_mark, Last-cases, Last-mark, Last-more, Last-none, Last-at_none, Leaves-cases, Leaves-more, Leaves-none, Leaves-at_none, Leaves-Last}
 use Rattle.pb_pmem.proofs.Lines.{contents-none}
-use Rattle.pb_pmem.proofs.Marks.{marks-append, marks_push_mark, marks_push_other, through_mark-append, through_mark_push, behind_mark-append, behind_mark_push, behind_mark-nil, marks-behind_mark, until_mark-none, until_mark-some, until_mark-nil, until_mark_one, until_mark_push_mark, Any-until_mark-append, through_last_sync_push, through_last_sync_push_other, least_cut-le}
-use Rattle.pb_pmem.proofs.Some.{Any-nil, Any-here, Any-cases, Any-append_left, Any-append_right, Any-append_cases, Any-reverse, Any-from_reverse}
+use Rattle.pb_pmem.proofs.Marks.{marks-append, marks_push_mark, marks_push_other, through_mark-append, through_mark_push, after_mark-append, after_mark_push, after_mark-nil, marks-after_mark, until_mark-none, until_mark-some, until_mark-nil, until_mark_one, until_mark_push_mark, Any-until_mark-append, through_last_sync_push, through_last_sync_push_other, least_cut-le}
+use Rattle.pb_pmem.proofs.AnyLemmas.{Any-nil, Any-here, Any-cases, Any-append_left, Any-append_right, Any-append_cases, Any-reverse, Any-from_reverse}
 use Rattle.pb_pmem.proofs.Words.{reverse-cons}
 
 -- a value that a crash at this cut may leave in a word
@@ -37,7 +37,7 @@ unbacked_one : (op : LogOp) → is_mark op ≡ true → unbacked_writes (op ∷ 
 unfolding unbacked_writes
 unbacked_one op e = rw (mark-writes_none op e) refl
 
--- Behind an empty log
+-- After an empty log
 
 through-nil : (cut : ℕ) → through_mark cut [] ≡ []
 unfolding through_mark
@@ -48,7 +48,7 @@ settled-nil : (base : List Line) (cut : ℕ) → settled_content base cut [] ≡
 settled-nil base cut = rw (through-nil cut, backed-nil) (contents-none base)
 
 loose-nil : (cut : ℕ) → loose_writes cut [] ≡ []
-loose-nil cut = rw (through-nil cut, unbacked-nil, behind_mark-nil, until_mark-nil) refl
+loose-nil cut = rw (through-nil cut, unbacked-nil, after_mark-nil, until_mark-nil) refl
 
 WordAt-nil : (base : List Line) (cut line word value : ℕ) → WordAt base [] cut line word value → value ≡ word_of base line word
 WordAt-nil base cut line word value (inl same) = same ∙ ap (λ lines. word_of lines line word) (settled-nil base cut)
@@ -63,30 +63,30 @@ WordAt-at_nil base cut line word value same =
 settled_push : (base : List Line) (log : List LogOp) (op : LogOp) (cut : ℕ) → cut ≤ marks log → settled_content base cut (log ++ op ∷ []) ≡ settled_content base cut log
 settled_push base log op cut few = ap (λ l. contents base (backed_writes l)) (through_mark-append cut log (op ∷ []) few)
 
-loose_push : (log : List LogOp) (op : LogOp) (cut : ℕ) → cut ≤ marks log → loose_writes cut (log ++ op ∷ []) ≡ unbacked_writes (through_mark cut log) ++ until_mark (behind_mark cut log ++ op ∷ [])
+loose_push : (log : List LogOp) (op : LogOp) (cut : ℕ) → cut ≤ marks log → loose_writes cut (log ++ op ∷ []) ≡ unbacked_writes (through_mark cut log) ++ until_mark (after_mark cut log ++ op ∷ [])
 loose_push log op cut few =
-    rw (through_mark-append cut log (op ∷ []) few, behind_mark-append cut log (op ∷ []) few) refl
+    rw (through_mark-append cut log (op ∷ []) few, after_mark-append cut log (op ∷ []) few) refl
 
--- a mark, or anything behind another mark, changes nothing
+-- a mark, or anything after another mark, changes nothing
 loose_push_same : (log : List LogOp) (op : LogOp) (cut : ℕ) → cut ≤ marks log → (is_mark op ≡ true) ⊎ (cut < marks log) → loose_writes cut (log ++ op ∷ []) ≡ loose_writes cut log
 loose_push_same log op cut few (inl mark) =
-    loose_push log op cut few ∙ ap (λ l. unbacked_writes (through_mark cut log) ++ l) (until_mark_push_mark (behind_mark cut log) op mark)
+    loose_push log op cut few ∙ ap (λ l. unbacked_writes (through_mark cut log) ++ l) (until_mark_push_mark (after_mark cut log) op mark)
 loose_push_same log op cut few (inr more) =
-    loose_push log op cut few ∙ ap (λ l. unbacked_writes (through_mark cut log) ++ l) (until_mark-some (behind_mark cut log) (op ∷ []) (omega (arith, marks-behind_mark cut log few)))
+    loose_push log op cut few ∙ ap (λ l. unbacked_writes (through_mark cut log) ++ l) (until_mark-some (after_mark cut log) (op ∷ []) (omega (arith, marks-after_mark cut log few)))
 
 -- another operation at the greatest cut is loose
 loose_push_last : (log : List LogOp) (op : LogOp) → is_mark op ≡ false → loose_writes (marks log) (log ++ op ∷ []) ≡ loose_writes (marks log) log ++ op ∷ []
 loose_push_last log op other =
-    loose_push log op (marks log) (omega arith) ∙ (ap (λ l. unbacked_writes (through_mark (marks log) log) ++ l) (longer ∙ ap (λ l. l ++ op ∷ []) (sym whole)) ∙ sym (append_assoc (unbacked_writes (through_mark (marks log) log)) (until_mark (behind_mark (marks log) log)) (op ∷ [])))
+    loose_push log op (marks log) (omega arith) ∙ (ap (λ l. unbacked_writes (through_mark (marks log) log) ++ l) (longer ∙ ap (λ l. l ++ op ∷ []) (sym whole)) ∙ sym (append_assoc (unbacked_writes (through_mark (marks log) log)) (until_mark (after_mark (marks log) log)) (op ∷ [])))
   where
-    none : marks (behind_mark (marks log) log) ≡ 0
-    none = omega (arith, marks-behind_mark (marks log) log (omega arith))
+    none : marks (after_mark (marks log) log) ≡ 0
+    none = omega (arith, marks-after_mark (marks log) log (omega arith))
 
-    longer : until_mark (behind_mark (marks log) log ++ op ∷ []) ≡ behind_mark (marks log) log ++ op ∷ []
-    longer = until_mark-none (behind_mark (marks log) log) (op ∷ []) none ∙ ap (λ l. behind_mark (marks log) log ++ l) (rw (until_mark_one, other) refl)
+    longer : until_mark (after_mark (marks log) log ++ op ∷ []) ≡ after_mark (marks log) log ++ op ∷ []
+    longer = until_mark-none (after_mark (marks log) log) (op ∷ []) none ∙ ap (λ l. after_mark (marks log) log ++ l) (rw (until_mark_one, other) refl)
 
-    whole : until_mark (behind_mark (marks log) log) ≡ behind_mark (marks log) log
-    whole = ap until_mark (sym (append-nil (behind_mark (marks log) log))) ∙ (until_mark-none (behind_mark (marks log) log) [] none ∙ (ap (λ l. behind_mark (marks log) log ++ l) until_mark-nil ∙ append-nil (behind_mark (marks log) log)))
+    whole : until_mark (after_mark (marks log) log) ≡ after_mark (marks log) log
+    whole = ap until_mark (sym (append-nil (after_mark (marks log) log))) ∙ (until_mark-none (after_mark (marks log) log) [] none ∙ (ap (λ l. after_mark (marks log) log ++ l) until_mark-nil ∙ append-nil (after_mark (marks log) log)))
 
 WordAt_push_same : (base : List Line) (log : List LogOp) (op : LogOp) (cut line word value : ℕ) → cut ≤ marks log → (is_mark op ≡ true) ⊎ (cut < marks log) → WordAt base (log ++ op ∷ []) cut line word value → WordAt base log cut line word value
 WordAt_push_same base log op cut line word value few more (inl same) =
@@ -97,39 +97,39 @@ WordAt_push : (base : List Line) (log : List LogOp) (op : LogOp) (cut line word 
 WordAt_push base log op cut line word value few (inl same) =
     inl (same ∙ sym (ap (λ lines. word_of lines line word) (settled_push base log op cut few)))
 WordAt_push base log op cut line word value few (inr a) =
-    inr (rw (loose_push log op cut few) (go (Any-append_cases (MayWrite line word value) (unbacked_writes (through_mark cut log)) (until_mark (behind_mark cut log)) a)))
+    inr (rw (loose_push log op cut few) (go (Any-append_cases (MayWrite line word value) (unbacked_writes (through_mark cut log)) (until_mark (after_mark cut log)) a)))
   where
-    go : Any (MayWrite line word value) (unbacked_writes (through_mark cut log)) ⊎ Any (MayWrite line word value) (until_mark (behind_mark cut log)) → Any (MayWrite line word value) (unbacked_writes (through_mark cut log) ++ until_mark (behind_mark cut log ++ op ∷ []))
+    go : Any (MayWrite line word value) (unbacked_writes (through_mark cut log)) ⊎ Any (MayWrite line word value) (until_mark (after_mark cut log)) → Any (MayWrite line word value) (unbacked_writes (through_mark cut log) ++ until_mark (after_mark cut log ++ op ∷ []))
     go (inl b) = Any-append_left (MayWrite line word value) _ _ b
     go (inr b) =
-        Any-append_right (MayWrite line word value) (unbacked_writes (through_mark cut log)) _ (Any-until_mark-append (MayWrite line word value) (behind_mark cut log) (op ∷ []) b)
+        Any-append_right (MayWrite line word value) (unbacked_writes (through_mark cut log)) _ (Any-until_mark-append (MayWrite line word value) (after_mark cut log) (op ∷ []) b)
 
 -- At the greatest cut
 
--- behind a mark the settled values and the loose writes are those that are held
+-- after a mark the settled values and the loose writes are what that mark settles
 settled_mark : (base : List Line) (past : List LogOp) (op : LogOp) → is_mark op ≡ true → settled_content base (marks (reverse past) + 1) (reverse past ++ op ∷ []) ≡ now base (backed_past (op ∷ []) past)
 settled_mark base past op mark =
     rw (through_mark_push (reverse past) op mark, backed_writes-past past (op ∷ []), backed_one op mark, append-nil) refl
 
 loose_mark : (past : List LogOp) (op : LogOp) → is_mark op ≡ true → loose_writes (marks (reverse past) + 1) (reverse past ++ op ∷ []) ≡ reverse (unbacked_past (op ∷ []) past)
 loose_mark past op mark =
-    rw (through_mark_push (reverse past) op mark, behind_mark_push (reverse past) op mark, until_mark-nil, unbacked_writes-past past (op ∷ []), unbacked_one op mark, append-nil, append-nil) refl
+    rw (through_mark_push (reverse past) op mark, after_mark_push (reverse past) op mark, until_mark-nil, unbacked_writes-past past (op ∷ []), unbacked_one op mark, append-nil, append-nil) refl
 
 no_Back : (line : ℕ) (op : LogOp) → is_mark op ≡ true → list_any (is_back_of line) (op ∷ []) ≡ false
 no_Back line op mark = rw (mark-no_Back line op mark) refl
 
-WordAt-Held : (base : List Line) (past : List LogOp) (op : LogOp) (line word value : ℕ) → is_mark op ≡ true → Held base past line word value → WordAt base (reverse past ++ op ∷ []) (marks (reverse past) + 1) line word value
-WordAt-Held base past op line word value mark held =
-    go (Held-backed base past (op ∷ []) line word value (no_Back line op mark) held)
+WordAt-AtNextMark : (base : List Line) (past : List LogOp) (op : LogOp) (line word value : ℕ) → is_mark op ≡ true → AtNextMark base past line word value → WordAt base (reverse past ++ op ∷ []) (marks (reverse past) + 1) line word value
+WordAt-AtNextMark base past op line word value mark at_next_mark =
+    go (AtNextMark-backed base past (op ∷ []) line word value (no_Back line op mark) at_next_mark)
   where
     go : IsBackedOr base past (op ∷ []) line word value → WordAt base (reverse past ++ op ∷ []) (marks (reverse past) + 1) line word value
     go (inl same) = inl (same ∙ sym (ap (λ lines. word_of lines line word) (settled_mark base past op mark)))
     go (inr a) =
         inr (rw (loose_mark past op mark) (Any-reverse (MayWrite line word value) (unbacked_past (op ∷ []) past) a))
 
-Held-WordAt : (base : List Line) (past : List LogOp) (op : LogOp) (line word value : ℕ) → is_mark op ≡ true → WordAt base (reverse past ++ op ∷ []) (marks (reverse past) + 1) line word value → Held base past line word value
-Held-WordAt base past op line word value mark h =
-    Held-from_backed base past (op ∷ []) line word value (no_Back line op mark) (go h)
+AtNextMark-WordAt : (base : List Line) (past : List LogOp) (op : LogOp) (line word value : ℕ) → is_mark op ≡ true → WordAt base (reverse past ++ op ∷ []) (marks (reverse past) + 1) line word value → AtNextMark base past line word value
+AtNextMark-WordAt base past op line word value mark h =
+    AtNextMark-from_backed base past (op ∷ []) line word value (no_Back line op mark) (go h)
   where
     go : WordAt base (reverse past ++ op ∷ []) (marks (reverse past) + 1) line word value → IsBackedOr base past (op ∷ []) line word value
     go (inl same) = inl (same ∙ ap (λ lines. word_of lines line word) (settled_mark base past op mark))
@@ -151,8 +151,8 @@ WordAt-Last base (op ∷ past) line word value h =
     written other w =
         rw (marks_push_other (reverse past) op other) (inr (rw (loose_push_last (reverse past) op other) (Any-append_right (MayWrite line word value) (loose_writes (marks (reverse past)) (reverse past)) (op ∷ []) (Any-here (MayWrite line word value) op [] w))))
 
-    go : (Last base past line word value → WordAt base (reverse past) (marks (reverse past)) line word value) → ((is_mark op ≡ true) × Held base past line word value) ⊎ ((is_mark op ≡ false) × (MayWrite line word value op ⊎ Last base past line word value)) → WordAt base (reverse past ++ op ∷ []) (marks (reverse past ++ op ∷ [])) line word value
-    go before (inl (mark, held)) = rw (marks_push_mark (reverse past) op mark) (WordAt-Held base past op line word value mark held)
+    go : (Last base past line word value → WordAt base (reverse past) (marks (reverse past)) line word value) → ((is_mark op ≡ true) × AtNextMark base past line word value) ⊎ ((is_mark op ≡ false) × (MayWrite line word value op ⊎ Last base past line word value)) → WordAt base (reverse past ++ op ∷ []) (marks (reverse past ++ op ∷ [])) line word value
+    go before (inl (mark, at_next_mark)) = rw (marks_push_mark (reverse past) op mark) (WordAt-AtNextMark base past op line word value mark at_next_mark)
     go before (inr (other, inl w)) = written other w
     go before (inr (other, inr last)) = more other (before last)
 
@@ -177,7 +177,7 @@ Last-WordAt base (op ∷ past) line word value h =
 
     go : (WordAt base (reverse past) (marks (reverse past)) line word value → Last base past line word value) → (is_mark op ≡ true) ⊎ (is_mark op ≡ false) → WordAt base (reverse past ++ op ∷ []) (marks (reverse past ++ op ∷ [])) line word value → Last base (op ∷ past) line word value
     go before (inl mark) h =
-        Last-mark base op past line word value mark (Held-WordAt base past op line word value mark (rw (marks_push_mark (reverse past) op mark) at h))
+        Last-mark base op past line word value mark (AtNextMark-WordAt base past op line word value mark (rw (marks_push_mark (reverse past) op mark) at h))
     go before (inr other) h =
         Last-more base op past line word value other (other_op other before (rw (marks_push_other (reverse past) op other) at h))
 
@@ -213,9 +213,9 @@ AtSomeCut-Leaves base (op ∷ past) image h =
           words = λ line word. WordAt_push base (reverse past) op at.cut line word (image line word) at.high (at.words line word);
         })
 
-    go : (Leaves base past image → AtSomeCut base (reverse past) image) → ((is_sync op ≡ true) × AllHeld base past image) ⊎ ((is_sync op ≡ false) × (AllLast base (op ∷ past) image ⊎ Leaves base past image)) → AtSomeCut base (reverse (op ∷ past)) image
-    go before (inl (sync, held)) =
-        AtSomeCut-greatest base (op ∷ past) image (λ line word. Last-mark base op past line word (image line word) (sync-is_mark op sync) (held line word))
+    go : (Leaves base past image → AtSomeCut base (reverse past) image) → ((is_sync op ≡ true) × AllAtNextMark base past image) ⊎ ((is_sync op ≡ false) × (AllLast base (op ∷ past) image ⊎ Leaves base past image)) → AtSomeCut base (reverse (op ∷ past)) image
+    go before (inl (sync, at_next_mark)) =
+        AtSomeCut-greatest base (op ∷ past) image (λ line word. Last-mark base op past line word (image line word) (sync-is_mark op sync) (at_next_mark line word))
     go before (inr (other, inl last)) = AtSomeCut-greatest base (op ∷ past) image last
     go before (inr (other, inr leaves)) = more other (before leaves)
 
@@ -260,12 +260,12 @@ Leaves-AtSomeCut base (op ∷ past) image at =
 
 -- The forms agree
 
-pub Leaves-IsLeft : (base : List Line) (log : List LogOp) (image : List Line) → IsLeft base log image → Leaves base (reverse log) (word_of image)
-Leaves-IsLeft base log image h =
+pub Leaves-IsCrashImage : (base : List Line) (log : List LogOp) (image : List Line) → IsCrashImage base log image → Leaves base (reverse log) (word_of image)
+Leaves-IsCrashImage base log image h =
     Leaves-AtSomeCut base (reverse log) (word_of image) (rw reverse-reverse (record { cut = h.cut; low = h.low; high = h.high; words = h.left.words }))
 
-pub IsLeft-Leaves : (base : List Line) (log : List LogOp) (image : List Line) → length image ≡ length base → Leaves base (reverse log) (word_of image) → IsLeft base log image
-IsLeft-Leaves base log image long h = go (rw reverse-reverse at (AtSomeCut-Leaves base (reverse log) (word_of image) h))
+pub IsCrashImage-Leaves : (base : List Line) (log : List LogOp) (image : List Line) → length image ≡ length base → Leaves base (reverse log) (word_of image) → IsCrashImage base log image
+IsCrashImage-Leaves base log image long h = go (rw reverse-reverse at (AtSomeCut-Leaves base (reverse log) (word_of image) h))
   where
-    go : AtSomeCut base log (word_of image) → IsLeft base log image
+    go : AtSomeCut base log (word_of image) → IsCrashImage base log image
     go at = record { cut = at.cut; low = at.low; high = at.high; left = record { lines = long; words = at.words } }

@@ -6,13 +6,13 @@ use Rattle.pb_pmem.specs.declared.line.Line.{Line}
 use Rattle.pb_pmem.specs.declared.log.LogOp.{LogOp}
 use Rattle.pb_pmem.specs.Crash.{is_back_of, is_backed, is_unbacked, backed_writes, unbacked_writes, line_written, MayWrite}
 use Rattle.pb_pmem.specs.Lines.{line_at, word_of}
-use Rattle.pb_pmem.specs.Past.{now, Held}
-use Rattle.pb_pmem.proofs.Held.{Back-writes_none, MayWrite-writes, Held-cases, Held-Back, Held-more, Held-none, Held-at_none}
+use Rattle.pb_pmem.specs.Past.{now, AtNextMark}
+use Rattle.pb_pmem.proofs.AtNextMark.{Back-writes_none, MayWrite-writes, AtNextMark-cases, AtNextMark-Back, AtNextMark-more, AtNextMark-none, AtNextMark-at_none}
 use Rattle.pb_pmem.proofs.Lines.{length-contents}
-use Rattle.pb_pmem.proofs.Some.{Any-nil, Any-cond_cases, Any-cond_here, Any-cond_there}
+use Rattle.pb_pmem.proofs.AnyLemmas.{Any-nil, Any-cond_cases, Any-cond_here, Any-cond_there}
 use Rattle.pb_pmem.proofs.Words.{line_at-applied_other, line_at-applied_same, now-none, now-more, reverse-cons}
 
--- the backed and the unbacked writes of a past that has `later` behind it, the last one first
+-- the backed and the unbacked writes of a past that has `later` after it, the last one first
 unfoldable pub backed_past : List LogOp → List LogOp → List LogOp
 backed_past later [] = []
 backed_past later (op ∷ past) =
@@ -23,27 +23,27 @@ unbacked_past later [] = []
 unbacked_past later (op ∷ past) =
     cond (is_unbacked (line_written op) later) (op ∷ unbacked_past (op ∷ later) past) (unbacked_past (op ∷ later) past)
 
-behind_past : (op : LogOp) (past later : List LogOp) → reverse (op ∷ past) ++ later ≡ reverse past ++ op ∷ later
-behind_past op past later = ap (λ l. l ++ later) (reverse-cons op past) ∙ append_assoc (reverse past) (op ∷ []) later
+after_past : (op : LogOp) (past later : List LogOp) → reverse (op ∷ past) ++ later ≡ reverse past ++ op ∷ later
+after_past op past later = ap (λ l. l ++ later) (reverse-cons op past) ∙ append_assoc (reverse past) (op ∷ []) later
 
 pub backed_writes-past : (past later : List LogOp) → backed_writes (reverse past ++ later) ≡ reverse (backed_past later past) ++ backed_writes later
 unfolding backed_writes backed_past
 backed_writes-past [] later = refl
 backed_writes-past (op ∷ past) later =
-    ap backed_writes (behind_past op past later) ∙ (backed_writes-past past (op ∷ later) ∙ go (is_backed (line_written op) later))
+    ap backed_writes (after_past op past later) ∙ (backed_writes-past past (op ∷ later) ∙ go (is_backed (line_written op) later))
   where
     go : (b : Bool) → reverse (backed_past (op ∷ later) past) ++ cond b (op ∷ backed_writes later) (backed_writes later) ≡ reverse (cond b (op ∷ backed_past (op ∷ later) past) (backed_past (op ∷ later) past)) ++ backed_writes later
-    go true = sym (behind_past op (backed_past (op ∷ later) past) (backed_writes later))
+    go true = sym (after_past op (backed_past (op ∷ later) past) (backed_writes later))
     go false = refl
 
 pub unbacked_writes-past : (past later : List LogOp) → unbacked_writes (reverse past ++ later) ≡ reverse (unbacked_past later past) ++ unbacked_writes later
 unfolding unbacked_writes unbacked_past
 unbacked_writes-past [] later = refl
 unbacked_writes-past (op ∷ past) later =
-    ap unbacked_writes (behind_past op past later) ∙ (unbacked_writes-past past (op ∷ later) ∙ go (is_unbacked (line_written op) later))
+    ap unbacked_writes (after_past op past later) ∙ (unbacked_writes-past past (op ∷ later) ∙ go (is_unbacked (line_written op) later))
   where
     go : (b : Bool) → reverse (unbacked_past (op ∷ later) past) ++ cond b (op ∷ unbacked_writes later) (unbacked_writes later) ≡ reverse (cond b (op ∷ unbacked_past (op ∷ later) past) (unbacked_past (op ∷ later) past)) ++ unbacked_writes later
-    go true = sym (behind_past op (unbacked_past (op ∷ later) past) (unbacked_writes later))
+    go true = sym (after_past op (unbacked_past (op ∷ later) past) (unbacked_writes later))
     go false = refl
 
 -- does the operation write this line?
@@ -67,7 +67,7 @@ line_at-now_cond base false op past line other = refl
 length-now : (base : List Line) (past : List LogOp) → length (now base past) ≡ length base
 length-now base past = length-contents base (reverse past)
 
--- where a `Back` of the line stands behind a past, the line is settled whole
+-- where a `Back` of the line stands after a past, the line is settled whole
 line_at-backed : (base : List Line) (past later : List LogOp) (line : ℕ) → list_any (is_back_of line) later ≡ true → line_at (now base (backed_past later past)) line ≡ line_at (now base past) line
 unfolding backed_past
 line_at-backed base [] later line back = refl
@@ -102,7 +102,7 @@ unbacked-none (op ∷ past) later line word value back some =
     go rest (inl (e, h)) = false≢true (sym (written h) ∙ e)
     go rest (inr a) = rest a
 
--- where none stands behind it, the last operation is no settled write of the line
+-- where none stands after it, the last operation is no settled write of the line
 line_at-unbacked : (base : List Line) (op : LogOp) (rest later : List LogOp) (line : ℕ) → list_any (is_back_of line) later ≡ false → line_at (now base (cond (is_backed (line_written op) later) (op ∷ rest) rest)) line ≡ line_at (now base rest) line
 line_at-unbacked base op rest later line none = go (cases_written op line)
   where
@@ -110,17 +110,17 @@ line_at-unbacked base op rest later line none = go (cases_written op line)
     go (inl e) = rw (e, none) refl
     go (inr other) = line_at-now_cond base (is_backed (line_written op) later) op rest line other
 
--- what is held is the settled value, or that of a write with no `Back` behind it
+-- what a mark would settle is the settled value, or that of a write with no `Back` after it
 abbrev pub IsBackedOr : List Line → List LogOp → List LogOp → ℕ → ℕ → ℕ → Type 0
 IsBackedOr base past later line word value =
     (value ≡ word_of (now base (backed_past later past)) line word) ⊎ Any (MayWrite line word value) (unbacked_past later past)
 
-pub Held-backed : (base : List Line) (past later : List LogOp) (line word value : ℕ) → list_any (is_back_of line) later ≡ false → Held base past line word value → IsBackedOr base past later line word value
+pub AtNextMark-backed : (base : List Line) (past later : List LogOp) (line word value : ℕ) → list_any (is_back_of line) later ≡ false → AtNextMark base past line word value → IsBackedOr base past later line word value
 unfolding backed_past unbacked_past
-Held-backed base [] later line word value none held =
-    inl (Held-at_none base line word value held ∙ sym (ap (λ lines. word_of lines line word) (now-none base)))
-Held-backed base (op ∷ past) later line word value none held =
-    go (λ (e : is_back_of line op ≡ false). Held-backed base past (op ∷ later) line word value (rw (e, none) refl)) (Held-cases base op past line word value held)
+AtNextMark-backed base [] later line word value none at_next_mark =
+    inl (AtNextMark-at_none base line word value at_next_mark ∙ sym (ap (λ lines. word_of lines line word) (now-none base)))
+AtNextMark-backed base (op ∷ past) later line word value none at_next_mark =
+    go (λ (e : is_back_of line op ≡ false). AtNextMark-backed base past (op ∷ later) line word value (rw (e, none) refl)) (AtNextMark-cases base op past line word value at_next_mark)
   where
     settled : line_at (now base (cond (is_backed (line_written op) later) (op ∷ backed_past (op ∷ later) past) (backed_past (op ∷ later) past))) line ≡ line_at (now base (backed_past (op ∷ later) past)) line
     settled = line_at-unbacked base op (backed_past (op ∷ later) past) later line none
@@ -129,34 +129,34 @@ Held-backed base (op ∷ past) later line word value none held =
     there (inl same) = inl (same ∙ sym (ap (λ (l : Line). slice_index l.words word) settled))
     there (inr a) = inr (Any-cond_there (MayWrite line word value) (is_unbacked (line_written op) later) op (unbacked_past (op ∷ later) past) a)
 
-    go : (is_back_of line op ≡ false → Held base past line word value → IsBackedOr base past (op ∷ later) line word value) → ((is_back_of line op ≡ true) × (value ≡ word_of (now base past) line word)) ⊎ ((is_back_of line op ≡ false) × (MayWrite line word value op ⊎ Held base past line word value)) → IsBackedOr base (op ∷ past) later line word value
+    go : (is_back_of line op ≡ false → AtNextMark base past line word value → IsBackedOr base past (op ∷ later) line word value) → ((is_back_of line op ≡ true) × (value ≡ word_of (now base past) line word)) ⊎ ((is_back_of line op ≡ false) × (MayWrite line word value op ⊎ AtNextMark base past line word value)) → IsBackedOr base (op ∷ past) later line word value
     go before (inl (back, same)) =
         inl (same ∙ sym (ap (λ (l : Line). slice_index l.words word) (settled ∙ line_at-backed base past (op ∷ later) line (rw back refl))))
     go before (inr (other, inl written)) =
         inr (Any-cond_here (MayWrite line word value) (is_unbacked (line_written op) later) op (unbacked_past (op ∷ later) past) (rw (MayWrite-writes line word value op written, none) refl) written)
-    go before (inr (other, inr held)) = there (before other held)
+    go before (inr (other, inr at_next_mark)) = there (before other at_next_mark)
 
-pub Held-from_backed : (base : List Line) (past later : List LogOp) (line word value : ℕ) → list_any (is_back_of line) later ≡ false → IsBackedOr base past later line word value → Held base past line word value
+pub AtNextMark-from_backed : (base : List Line) (past later : List LogOp) (line word value : ℕ) → list_any (is_back_of line) later ≡ false → IsBackedOr base past later line word value → AtNextMark base past line word value
 unfolding backed_past unbacked_past
-Held-from_backed base [] later line word value none (inl same) =
-    Held-none base line word value (same ∙ ap (λ lines. word_of lines line word) (now-none base))
-Held-from_backed base [] later line word value none (inr a) = absurd (Any-nil (MayWrite line word value) a)
-Held-from_backed base (op ∷ past) later line word value none h =
-    go (λ (e : is_back_of line op ≡ false). Held-from_backed base past (op ∷ later) line word value (rw (e, none) refl)) (cases_Bool (is_back_of line op)) h
+AtNextMark-from_backed base [] later line word value none (inl same) =
+    AtNextMark-none base line word value (same ∙ ap (λ lines. word_of lines line word) (now-none base))
+AtNextMark-from_backed base [] later line word value none (inr a) = absurd (Any-nil (MayWrite line word value) a)
+AtNextMark-from_backed base (op ∷ past) later line word value none h =
+    go (λ (e : is_back_of line op ≡ false). AtNextMark-from_backed base past (op ∷ later) line word value (rw (e, none) refl)) (cases_Bool (is_back_of line op)) h
   where
     settled : line_at (now base (cond (is_backed (line_written op) later) (op ∷ backed_past (op ∷ later) past) (backed_past (op ∷ later) past))) line ≡ line_at (now base (backed_past (op ∷ later) past)) line
     settled = line_at-unbacked base op (backed_past (op ∷ later) past) later line none
 
-    here : ((is_unbacked (line_written op) later ≡ true) × MayWrite line word value op) ⊎ Any (MayWrite line word value) (unbacked_past (op ∷ later) past) → (Any (MayWrite line word value) (unbacked_past (op ∷ later) past) → Held base past line word value) → MayWrite line word value op ⊎ Held base past line word value
+    here : ((is_unbacked (line_written op) later ≡ true) × MayWrite line word value op) ⊎ Any (MayWrite line word value) (unbacked_past (op ∷ later) past) → (Any (MayWrite line word value) (unbacked_past (op ∷ later) past) → AtNextMark base past line word value) → MayWrite line word value op ⊎ AtNextMark base past line word value
     here (inl (e, written)) rest = inl written
     here (inr a) rest = inr (rest a)
 
-    go : (is_back_of line op ≡ false → IsBackedOr base past (op ∷ later) line word value → Held base past line word value) → (is_back_of line op ≡ true) ⊎ (is_back_of line op ≡ false) → IsBackedOr base (op ∷ past) later line word value → Held base (op ∷ past) line word value
+    go : (is_back_of line op ≡ false → IsBackedOr base past (op ∷ later) line word value → AtNextMark base past line word value) → (is_back_of line op ≡ true) ⊎ (is_back_of line op ≡ false) → IsBackedOr base (op ∷ past) later line word value → AtNextMark base (op ∷ past) line word value
     go before (inl back) (inl same) =
-        Held-Back base op past line word value back (same ∙ ap (λ (l : Line). slice_index l.words word) (settled ∙ line_at-backed base past (op ∷ later) line (rw back refl)))
+        AtNextMark-Back base op past line word value back (same ∙ ap (λ (l : Line). slice_index l.words word) (settled ∙ line_at-backed base past (op ∷ later) line (rw back refl)))
     go before (inl back) (inr a) =
         absurd (unbacked-none past (op ∷ later) line word value (rw back refl) (rw (Back-writes_none line op back) at a))
     go before (inr other) (inl same) =
-        Held-more base op past line word value other (inr (before other (inl (same ∙ ap (λ (l : Line). slice_index l.words word) settled))))
+        AtNextMark-more base op past line word value other (inr (before other (inl (same ∙ ap (λ (l : Line). slice_index l.words word) settled))))
     go before (inr other) (inr a) =
-        Held-more base op past line word value other (here (Any-cond_cases (MayWrite line word value) (is_unbacked (line_written op) later) op (unbacked_past (op ∷ later) past) a) (λ b. before other (inr b)))
+        AtNextMark-more base op past line word value other (here (Any-cond_cases (MayWrite line word value) (is_unbacked (line_written op) later) op (unbacked_past (op ∷ later) past) a) (λ b. before other (inr b)))

@@ -9,8 +9,8 @@ use Rattle.pb_pmem.specs.declared.log.LogOp.TheVariants.{Whole, Word, Back, Fenc
 use Rattle.pb_pmem.specs.Contents.{applied}
 use Rattle.pb_pmem.specs.Crash.{is_mark, is_sync, is_back_of, line_written, MayWrite}
 use Rattle.pb_pmem.specs.Lines.{word_of}
-use Rattle.pb_pmem.specs.Past.{Words, now, Held, Last, AllHeld, AllLast, Leaves, writes_line, is_clean, DiffersBy, IsGiven, Bounds}
-use Rattle.pb_pmem.proofs.Held.{Back-writes_none, MayWrite-writes, Held-cases, Held-at_none, Held-now, Last-cases, Last-at_none, Last-now, Leaves-cases, Leaves-at_none, Leaves-Held, Leaves-Last}
+use Rattle.pb_pmem.specs.Past.{Words, now, AtNextMark, Last, AllAtNextMark, AllLast, Leaves, writes_line, is_clean, DiffersBy, IsGiven, Bounds}
+use Rattle.pb_pmem.proofs.AtNextMark.{Back-writes_none, MayWrite-writes, AtNextMark-cases, AtNextMark-at_none, AtNextMark-now, Last-cases, Last-at_none, Last-now, Leaves-cases, Leaves-at_none, Leaves-AtNextMark, Leaves-Last}
 use Rattle.pb_pmem.proofs.Words.{applied-none, line_at-applied_other, now-none, now-more}
 
 -- a write is no mark and no `Back`
@@ -43,8 +43,8 @@ Last-before base op past image other h =
     at : (line word : ℕ) → MayWrite line word (image line word) op ⊎ Last base past line word (image line word)
     at line word = go (Last-cases base op past line word (image line word) (h line word))
       where
-        go : ((is_mark op ≡ true) × Held base past line word (image line word)) ⊎ ((is_mark op ≡ false) × (MayWrite line word (image line word) op ⊎ Last base past line word (image line word))) → MayWrite line word (image line word) op ⊎ Last base past line word (image line word)
-        go (inl (mark, held)) = absurd (false≢true (sym other ∙ mark))
+        go : ((is_mark op ≡ true) × AtNextMark base past line word (image line word)) ⊎ ((is_mark op ≡ false) × (MayWrite line word (image line word) op ⊎ Last base past line word (image line word))) → MayWrite line word (image line word) op ⊎ Last base past line word (image line word)
+        go (inl (mark, at_next_mark)) = absurd (false≢true (sym other ∙ mark))
         go (inr (no_mark, last)) = last
 
     before : (line word : ℕ) → MayWrite line word (image line word) op ⊎ Last base past line word (image line word) → ℕ
@@ -59,126 +59,126 @@ Last-before base op past image other h =
     differs line word (inl written) = inr written
     differs line word (inr last) = inl refl
 
--- the same of what is held, behind a write
-pub Held-before : (base : List Line) (op : LogOp) (past : List LogOp) (image : Words) → ((line : ℕ) → is_back_of line op ≡ false) → AllHeld base (op ∷ past) image → (before : Words) × AllHeld base past before × DiffersBy op before image
-Held-before base op past image other h =
+-- the same of what a mark would settle, after a write
+pub AtNextMark-before : (base : List Line) (op : LogOp) (past : List LogOp) (image : Words) → ((line : ℕ) → is_back_of line op ≡ false) → AllAtNextMark base (op ∷ past) image → (before : Words) × AllAtNextMark base past before × DiffersBy op before image
+AtNextMark-before base op past image other h =
     ((λ line word. before line word (at line word)), (λ line word. allowed line word (at line word)), (λ line word. differs line word (at line word)))
   where
-    at : (line word : ℕ) → MayWrite line word (image line word) op ⊎ Held base past line word (image line word)
-    at line word = go (Held-cases base op past line word (image line word) (h line word))
+    at : (line word : ℕ) → MayWrite line word (image line word) op ⊎ AtNextMark base past line word (image line word)
+    at line word = go (AtNextMark-cases base op past line word (image line word) (h line word))
       where
-        go : ((is_back_of line op ≡ true) × (image line word ≡ word_of (now base past) line word)) ⊎ ((is_back_of line op ≡ false) × (MayWrite line word (image line word) op ⊎ Held base past line word (image line word))) → MayWrite line word (image line word) op ⊎ Held base past line word (image line word)
+        go : ((is_back_of line op ≡ true) × (image line word ≡ word_of (now base past) line word)) ⊎ ((is_back_of line op ≡ false) × (MayWrite line word (image line word) op ⊎ AtNextMark base past line word (image line word))) → MayWrite line word (image line word) op ⊎ AtNextMark base past line word (image line word)
         go (inl (back, same)) = absurd (false≢true (sym (other line) ∙ back))
-        go (inr (no_back, held)) = held
+        go (inr (no_back, at_next_mark)) = at_next_mark
 
-    before : (line word : ℕ) → MayWrite line word (image line word) op ⊎ Held base past line word (image line word) → ℕ
+    before : (line word : ℕ) → MayWrite line word (image line word) op ⊎ AtNextMark base past line word (image line word) → ℕ
     before line word (inl written) = word_of (now base past) line word
-    before line word (inr held) = image line word
+    before line word (inr at_next_mark) = image line word
 
-    allowed : (line word : ℕ) (s : MayWrite line word (image line word) op ⊎ Held base past line word (image line word)) → Held base past line word (before line word s)
-    allowed line word (inl written) = Held-now base past line word
-    allowed line word (inr held) = held
+    allowed : (line word : ℕ) (s : MayWrite line word (image line word) op ⊎ AtNextMark base past line word (image line word)) → AtNextMark base past line word (before line word s)
+    allowed line word (inl written) = AtNextMark-now base past line word
+    allowed line word (inr at_next_mark) = at_next_mark
 
-    differs : (line word : ℕ) (s : MayWrite line word (image line word) op ⊎ Held base past line word (image line word)) → (image line word ≡ before line word s) ⊎ MayWrite line word (image line word) op
+    differs : (line word : ℕ) (s : MayWrite line word (image line word) op ⊎ AtNextMark base past line word (image line word)) → (image line word ≡ before line word s) ⊎ MayWrite line word (image line word) op
     differs line word (inl written) = inr written
-    differs line word (inr held) = inl refl
+    differs line word (inr at_next_mark) = inl refl
 
 -- a `Back` takes nothing away at the greatest cut
-pub Last-behind_Back : (base : List Line) (first count : ℕ) (past : List LogOp) (image : Words) → AllLast base (Back first count ∷ past) image → AllLast base past image
-Last-behind_Back base first count past image h line word =
+pub Last-after_Back : (base : List Line) (first count : ℕ) (past : List LogOp) (image : Words) → AllLast base (Back first count ∷ past) image → AllLast base past image
+Last-after_Back base first count past image h line word =
     go (Last-cases base (Back first count) past line word (image line word) (h line word))
   where
-    go : ((false ≡ true) × Held base past line word (image line word)) ⊎ ((false ≡ false) × (⊥ ⊎ Last base past line word (image line word))) → Last base past line word (image line word)
-    go (inl (mark, held)) = absurd (false≢true mark)
+    go : ((false ≡ true) × AtNextMark base past line word (image line word)) ⊎ ((false ≡ false) × (⊥ ⊎ Last base past line word (image line word))) → Last base past line word (image line word)
+    go (inl (mark, at_next_mark)) = absurd (false≢true mark)
     go (inr (other, inl written)) = absurd written
     go (inr (other, inr last)) = last
 
--- what is held behind a `Back` was held before, and its lines are the contents
-pub Held-behind_Back : (base : List Line) (first count : ℕ) (past : List LogOp) (image : Words) → AllHeld base (Back first count ∷ past) image → AllHeld base past image
-Held-behind_Back base first count past image h line word =
-    go (Held-cases base (Back first count) past line word (image line word) (h line word))
+-- what a mark after a `Back` would settle, a mark before it would too, and the lines that were given are the contents
+pub AtNextMark-after_Back : (base : List Line) (first count : ℕ) (past : List LogOp) (image : Words) → AllAtNextMark base (Back first count ∷ past) image → AllAtNextMark base past image
+AtNextMark-after_Back base first count past image h line word =
+    go (AtNextMark-cases base (Back first count) past line word (image line word) (h line word))
   where
-    go : ((is_back_of line (Back first count) ≡ true) × (image line word ≡ word_of (now base past) line word)) ⊎ ((is_back_of line (Back first count) ≡ false) × (⊥ ⊎ Held base past line word (image line word))) → Held base past line word (image line word)
-    go (inl (back, same)) = subst (λ x. Held base past line word x) (sym same) (Held-now base past line word)
+    go : ((is_back_of line (Back first count) ≡ true) × (image line word ≡ word_of (now base past) line word)) ⊎ ((is_back_of line (Back first count) ≡ false) × (⊥ ⊎ AtNextMark base past line word (image line word))) → AtNextMark base past line word (image line word)
+    go (inl (back, same)) = subst (λ x. AtNextMark base past line word x) (sym same) (AtNextMark-now base past line word)
     go (inr (other, inl written)) = absurd written
-    go (inr (other, inr held)) = held
+    go (inr (other, inr at_next_mark)) = at_next_mark
 
-pub Held-given : (base : List Line) (first count : ℕ) (past : List LogOp) (image : Words) → AllHeld base (Back first count ∷ past) image → IsGiven (Back first count) (now base past) image
-Held-given base first count past image h line word back =
-    go (Held-cases base (Back first count) past line word (image line word) (h line word))
+pub AtNextMark-given : (base : List Line) (first count : ℕ) (past : List LogOp) (image : Words) → AllAtNextMark base (Back first count ∷ past) image → IsGiven (Back first count) (now base past) image
+AtNextMark-given base first count past image h line word back =
+    go (AtNextMark-cases base (Back first count) past line word (image line word) (h line word))
   where
-    go : ((is_back_of line (Back first count) ≡ true) × (image line word ≡ word_of (now base past) line word)) ⊎ ((is_back_of line (Back first count) ≡ false) × (⊥ ⊎ Held base past line word (image line word))) → image line word ≡ word_of (now base past) line word
+    go : ((is_back_of line (Back first count) ≡ true) × (image line word ≡ word_of (now base past) line word)) ⊎ ((is_back_of line (Back first count) ≡ false) × (⊥ ⊎ AtNextMark base past line word (image line word))) → image line word ≡ word_of (now base past) line word
     go (inl (b, same)) = same
     go (inr (other, h)) = absurd (false≢true (sym other ∙ back))
 
 -- a mark writes nothing
-Held-behind_mark : (base : List Line) (op : LogOp) (past : List LogOp) (image : Words) → (op ≡ Fence) ⊎ (op ≡ Sync) → AllHeld base (op ∷ past) image → AllHeld base past image
-Held-behind_mark base op past image which h line word =
-    go which (Held-cases base op past line word (image line word) (h line word))
+AtNextMark-after_mark : (base : List Line) (op : LogOp) (past : List LogOp) (image : Words) → (op ≡ Fence) ⊎ (op ≡ Sync) → AllAtNextMark base (op ∷ past) image → AllAtNextMark base past image
+AtNextMark-after_mark base op past image which h line word =
+    go which (AtNextMark-cases base op past line word (image line word) (h line word))
   where
-    go : (op ≡ Fence) ⊎ (op ≡ Sync) → ((is_back_of line op ≡ true) × (image line word ≡ word_of (now base past) line word)) ⊎ ((is_back_of line op ≡ false) × (MayWrite line word (image line word) op ⊎ Held base past line word (image line word))) → Held base past line word (image line word)
-    go which (inl (back, same)) = subst (λ x. Held base past line word x) (sym same) (Held-now base past line word)
+    go : (op ≡ Fence) ⊎ (op ≡ Sync) → ((is_back_of line op ≡ true) × (image line word ≡ word_of (now base past) line word)) ⊎ ((is_back_of line op ≡ false) × (MayWrite line word (image line word) op ⊎ AtNextMark base past line word (image line word))) → AtNextMark base past line word (image line word)
+    go which (inl (back, same)) = subst (λ x. AtNextMark base past line word x) (sym same) (AtNextMark-now base past line word)
     go (inl fence) (inr (other, inl written)) = absurd (subst (λ o. MayWrite line word (image line word) o) fence written)
     go (inr sync) (inr (other, inl written)) = absurd (subst (λ o. MayWrite line word (image line word) o) sync written)
-    go which (inr (other, inr held)) = held
+    go which (inr (other, inr at_next_mark)) = at_next_mark
 
--- behind a mark the greatest cut allows what was held
-pub Last-at_mark : (base : List Line) (op : LogOp) (past : List LogOp) (image : Words) → is_mark op ≡ true → AllLast base (op ∷ past) image → AllHeld base past image
+-- after a mark the greatest cut allows what that mark settles
+pub Last-at_mark : (base : List Line) (op : LogOp) (past : List LogOp) (image : Words) → is_mark op ≡ true → AllLast base (op ∷ past) image → AllAtNextMark base past image
 Last-at_mark base op past image mark h line word =
     go (Last-cases base op past line word (image line word) (h line word))
   where
-    go : ((is_mark op ≡ true) × Held base past line word (image line word)) ⊎ ((is_mark op ≡ false) × (MayWrite line word (image line word) op ⊎ Last base past line word (image line word))) → Held base past line word (image line word)
-    go (inl (m, held)) = held
+    go : ((is_mark op ≡ true) × AtNextMark base past line word (image line word)) ⊎ ((is_mark op ≡ false) × (MayWrite line word (image line word) op ⊎ Last base past line word (image line word))) → AtNextMark base past line word (image line word)
+    go (inl (m, at_next_mark)) = at_next_mark
     go (inr (other, h)) = absurd (false≢true (sym other ∙ mark))
 
 -- The set of images
 
--- behind a write, a crash leaves what it might leave before, or an image of the new greatest cut
-pub Leaves-behind_other : (base : List Line) (op : LogOp) (past : List LogOp) (image : Words) → is_sync op ≡ false → Leaves base (op ∷ past) image → AllLast base (op ∷ past) image ⊎ Leaves base past image
-Leaves-behind_other base op past image other h = go (Leaves-cases base op past image h)
+-- after a write, a crash leaves what it might leave before, or an image of the new greatest cut
+pub Leaves-after_other : (base : List Line) (op : LogOp) (past : List LogOp) (image : Words) → is_sync op ≡ false → Leaves base (op ∷ past) image → AllLast base (op ∷ past) image ⊎ Leaves base past image
+Leaves-after_other base op past image other h = go (Leaves-cases base op past image h)
   where
-    go : ((is_sync op ≡ true) × AllHeld base past image) ⊎ ((is_sync op ≡ false) × (AllLast base (op ∷ past) image ⊎ Leaves base past image)) → AllLast base (op ∷ past) image ⊎ Leaves base past image
-    go (inl (sync, held)) = absurd (false≢true (sym other ∙ sync))
+    go : ((is_sync op ≡ true) × AllAtNextMark base past image) ⊎ ((is_sync op ≡ false) × (AllLast base (op ∷ past) image ⊎ Leaves base past image)) → AllLast base (op ∷ past) image ⊎ Leaves base past image
+    go (inl (sync, at_next_mark)) = absurd (false≢true (sym other ∙ sync))
     go (inr (o, h)) = h
 
--- an image behind one more operation comes from one before, which differs only where the operation may have written
+-- an image after one more operation comes from one before, which differs only where the operation may have written
 pub Leaves-before : (base : List Line) (op : LogOp) (past : List LogOp) (image : Words) → Leaves base (op ∷ past) image → (before : Words) × Leaves base past before × DiffersBy op before image
 Leaves-before base op past image h = go (Leaves-cases base op past image h) (cases_Bool (is_mark op))
   where
     same : Leaves base past image → (before : Words) × Leaves base past before × DiffersBy op before image
     same leaves = (image, leaves, (λ line word. inl refl))
 
-    go : ((is_sync op ≡ true) × AllHeld base past image) ⊎ ((is_sync op ≡ false) × (AllLast base (op ∷ past) image ⊎ Leaves base past image)) → (is_mark op ≡ true) ⊎ (is_mark op ≡ false) → (before : Words) × Leaves base past before × DiffersBy op before image
-    go (inl (sync, held)) mark = same (Leaves-Held base past image held)
+    go : ((is_sync op ≡ true) × AllAtNextMark base past image) ⊎ ((is_sync op ≡ false) × (AllLast base (op ∷ past) image ⊎ Leaves base past image)) → (is_mark op ≡ true) ⊎ (is_mark op ≡ false) → (before : Words) × Leaves base past before × DiffersBy op before image
+    go (inl (sync, at_next_mark)) mark = same (Leaves-AtNextMark base past image at_next_mark)
     go (inr (other, inr leaves)) mark = same leaves
-    go (inr (other, inl last)) (inl mark) = same (Leaves-Held base past image (Last-at_mark base op past image mark last))
+    go (inr (other, inl last)) (inl mark) = same (Leaves-AtNextMark base past image (Last-at_mark base op past image mark last))
     go (inr (other, inl last)) (inr no_mark) =
         let b = Last-before base op past image no_mark last in
         (b.0, Leaves-Last base past b.0 b.1, b.2)
 
 -- a `Back` adds no image
-pub Leaves-behind_Back : (base : List Line) (first count : ℕ) (past : List LogOp) (image : Words) → Leaves base (Back first count ∷ past) image → Leaves base past image
-Leaves-behind_Back base first count past image h =
-    go (Leaves-behind_other base (Back first count) past image refl h)
+pub Leaves-after_Back : (base : List Line) (first count : ℕ) (past : List LogOp) (image : Words) → Leaves base (Back first count ∷ past) image → Leaves base past image
+Leaves-after_Back base first count past image h =
+    go (Leaves-after_other base (Back first count) past image refl h)
   where
     go : AllLast base (Back first count ∷ past) image ⊎ Leaves base past image → Leaves base past image
-    go (inl last) = Leaves-Last base past image (Last-behind_Back base first count past image last)
+    go (inl last) = Leaves-Last base past image (Last-after_Back base first count past image last)
     go (inr leaves) = leaves
 
 -- and neither does a `Fence`
-pub Leaves-behind_Fence : (base : List Line) (past : List LogOp) (image : Words) → Leaves base (Fence ∷ past) image → Leaves base past image
-Leaves-behind_Fence base past image h = go (Leaves-behind_other base Fence past image refl h)
+pub Leaves-after_Fence : (base : List Line) (past : List LogOp) (image : Words) → Leaves base (Fence ∷ past) image → Leaves base past image
+Leaves-after_Fence base past image h = go (Leaves-after_other base Fence past image refl h)
   where
     go : AllLast base (Fence ∷ past) image ⊎ Leaves base past image → Leaves base past image
-    go (inl last) = Leaves-Held base past image (Last-at_mark base Fence past image refl last)
+    go (inl last) = Leaves-AtNextMark base past image (Last-at_mark base Fence past image refl last)
     go (inr leaves) = leaves
 
--- behind a `Sync` a crash leaves what is held
-pub Leaves-behind_Sync : (base : List Line) (past : List LogOp) (image : Words) → Leaves base (Sync ∷ past) image → AllHeld base past image
-Leaves-behind_Sync base past image h = go (Leaves-cases base Sync past image h)
+-- after a `Sync` a crash leaves what that settles
+pub Leaves-after_Sync : (base : List Line) (past : List LogOp) (image : Words) → Leaves base (Sync ∷ past) image → AllAtNextMark base past image
+Leaves-after_Sync base past image h = go (Leaves-cases base Sync past image h)
   where
-    go : ((true ≡ true) × AllHeld base past image) ⊎ ((true ≡ false) × (AllLast base (Sync ∷ past) image ⊎ Leaves base past image)) → AllHeld base past image
-    go (inl (sync, held)) = held
+    go : ((true ≡ true) × AllAtNextMark base past image) ⊎ ((true ≡ false) × (AllLast base (Sync ∷ past) image ⊎ Leaves base past image)) → AllAtNextMark base past image
+    go (inl (sync, at_next_mark)) = at_next_mark
     go (inr (other, h)) = absurd (false≢true (sym other))
 
 -- The rules
@@ -189,77 +189,77 @@ Bounds-none base P h =
     record {
       all = λ image leaves. at image (λ line word. Last-at_none base line word (image line word) (Leaves-at_none base image leaves line word));
       last = λ image last. at image (λ line word. Last-at_none base line word (image line word) (last line word));
-      held = λ image held. at image (λ line word. Held-at_none base line word (image line word) (held line word));
+      at_next_mark = λ image at_next_mark. at image (λ line word. AtNextMark-at_none base line word (image line word) (at_next_mark line word));
     }
   where
     at : (image : Words) → ((line word : ℕ) → image line word ≡ word_of base line word) → P image
     at image same = subst P (sym (fun_ext (λ line. fun_ext (λ word. same line word)))) h
 
--- a write: the images of the greatest cut and the held ones differ from those before only where it wrote
+-- a write: the images of the greatest cut and those that a mark would settle differ from those before only where it wrote
 pub Bounds-write : {base : List Line} {past : List LogOp} {A T S : Words → Type 0} (op : LogOp) (at : ℕ) (A' T' S' : Words → Type 0) → line_written op ≡ Some at → Bounds base past A T S → ((before image : Words) → T before → DiffersBy op before image → T' image) → ((before image : Words) → S before → DiffersBy op before image → S' image) → ((image : Words) → A image → A' image) → ((image : Words) → T' image → A' image) → Bounds base (op ∷ past) A' T' S'
 Bounds-write {base} {past} {A} {T} {S} op at A' T' S' written bounds new_last new_held old new =
-    record { all = all; last = last; held = held }
+    record { all = all; last = last; at_next_mark = at_next_mark }
   where
     last : (image : Words) → AllLast base (op ∷ past) image → T' image
     last image h = let b = Last-before base op past image (write-no_mark op at written) h in new_last b.0 image (bounds.last b.0 b.1) b.2
 
-    held : (image : Words) → AllHeld base (op ∷ past) image → S' image
-    held image h =
-        let b = Held-before base op past image (λ line. write-no_Back op at line written) h in
-        new_held b.0 image (bounds.held b.0 b.1) b.2
+    at_next_mark : (image : Words) → AllAtNextMark base (op ∷ past) image → S' image
+    at_next_mark image h =
+        let b = AtNextMark-before base op past image (λ line. write-no_Back op at line written) h in
+        new_held b.0 image (bounds.at_next_mark b.0 b.1) b.2
 
     all : (image : Words) → Leaves base (op ∷ past) image → A' image
-    all image h = go (Leaves-behind_other base op past image (write-no_sync op at written) h)
+    all image h = go (Leaves-after_other base op past image (write-no_sync op at written) h)
       where
         go : AllLast base (op ∷ past) image ⊎ Leaves base past image → A' image
         go (inl l) = new image (last image l)
         go (inr l) = old image (bounds.all image l)
 
--- a `Back`: the held images have its lines from the contents
+-- a `Back`: the images that a mark would settle have its lines from the contents
 pub Bounds-Back : {base : List Line} {past : List LogOp} {A T S : Words → Type 0} (first count : ℕ) (S' : Words → Type 0) → Bounds base past A T S → ((image : Words) → S image → IsGiven (Back first count) (now base past) image → S' image) → Bounds base (Back first count ∷ past) A T S'
 Bounds-Back {base} {past} first count S' bounds given =
     record {
-      all = λ image h. bounds.all image (Leaves-behind_Back base first count past image h);
-      last = λ image h. bounds.last image (Last-behind_Back base first count past image h);
-      held = λ image h. given image (bounds.held image (Held-behind_Back base first count past image h)) (Held-given base first count past image h);
+      all = λ image h. bounds.all image (Leaves-after_Back base first count past image h);
+      last = λ image h. bounds.last image (Last-after_Back base first count past image h);
+      at_next_mark = λ image h. given image (bounds.at_next_mark image (AtNextMark-after_Back base first count past image h)) (AtNextMark-given base first count past image h);
     }
 
--- a `Fence`: the greatest cut allows what was held
+-- a `Fence`: the greatest cut allows what it settles
 pub Bounds-Fence : {base : List Line} {past : List LogOp} {A T S : Words → Type 0} → Bounds base past A T S → Bounds base (Fence ∷ past) A S S
 Bounds-Fence {base} {past} bounds =
     record {
-      all = λ image h. bounds.all image (Leaves-behind_Fence base past image h);
-      last = λ image h. bounds.held image (Last-at_mark base Fence past image refl h);
-      held = λ image h. bounds.held image (Held-behind_mark base Fence past image (inl refl) h);
+      all = λ image h. bounds.all image (Leaves-after_Fence base past image h);
+      last = λ image h. bounds.at_next_mark image (Last-at_mark base Fence past image refl h);
+      at_next_mark = λ image h. bounds.at_next_mark image (AtNextMark-after_mark base Fence past image (inl refl) h);
     }
 
--- a `Sync`: a crash leaves what was held
+-- a `Sync`: a crash leaves what it settles
 pub Bounds-Sync : {base : List Line} {past : List LogOp} {A T S : Words → Type 0} → Bounds base past A T S → Bounds base (Sync ∷ past) S S S
 Bounds-Sync {base} {past} bounds =
     record {
-      all = λ image h. bounds.held image (Leaves-behind_Sync base past image h);
-      last = λ image h. bounds.held image (Last-at_mark base Sync past image refl h);
-      held = λ image h. bounds.held image (Held-behind_mark base Sync past image (inr refl) h);
+      all = λ image h. bounds.at_next_mark image (Leaves-after_Sync base past image h);
+      last = λ image h. bounds.at_next_mark image (Last-at_mark base Sync past image refl h);
+      at_next_mark = λ image h. bounds.at_next_mark image (AtNextMark-after_mark base Sync past image (inr refl) h);
     }
 
 -- less may be said
 pub Bounds-weaker : {base : List Line} {past : List LogOp} {A T S : Words → Type 0} (A' T' S' : Words → Type 0) → Bounds base past A T S → ((image : Words) → A image → A' image) → ((image : Words) → T image → T' image) → ((image : Words) → S image → S' image) → Bounds base past A' T' S'
-Bounds-weaker A' T' S' bounds all last held =
+Bounds-weaker A' T' S' bounds all last at_next_mark =
     record {
       all = λ image h. all image (bounds.all image h);
       last = λ image h. last image (bounds.last image h);
-      held = λ image h. held image (bounds.held image h);
+      at_next_mark = λ image h. at_next_mark image (bounds.at_next_mark image h);
     }
 
 -- Clean lines
 
--- a line whose last write has a `Back` behind it is held as it is
-pub Held-clean : (base : List Line) (past : List LogOp) (line word value : ℕ) → is_clean line past ≡ true → Held base past line word value → value ≡ word_of (now base past) line word
+-- a line whose last write has a `Back` after it is one that a mark would settle as it is
+pub AtNextMark-clean : (base : List Line) (past : List LogOp) (line word value : ℕ) → is_clean line past ≡ true → AtNextMark base past line word value → value ≡ word_of (now base past) line word
 unfolding is_clean
-Held-clean base [] line word value clean h =
-    Held-at_none base line word value h ∙ sym (ap (λ lines. word_of lines line word) (now-none base))
-Held-clean base (op ∷ past) line word value clean h =
-    go (Held-clean base past line word value) (Held-cases base op past line word value h)
+AtNextMark-clean base [] line word value clean h =
+    AtNextMark-at_none base line word value h ∙ sym (ap (λ lines. word_of lines line word) (now-none base))
+AtNextMark-clean base (op ∷ past) line word value clean h =
+    go (AtNextMark-clean base past line word value) (AtNextMark-cases base op past line word value h)
   where
     longer : word_of (applied op (now base past)) line word ≡ word_of (now base (op ∷ past)) line word
     longer = ap (λ lines. word_of lines line word) (sym (now-more base op past))
@@ -281,11 +281,11 @@ Held-clean base (op ∷ past) line word value clean h =
     still : writes_line line (line_written op) ≡ false → word_of (applied op (now base past)) line word ≡ word_of (now base past) line word
     still e = ap (λ (l : Line). slice_index l.words word) (line_at-applied_other op (now base past) line (other_line e))
 
-    go : (is_clean line past ≡ true → Held base past line word value → value ≡ word_of (now base past) line word) → ((is_back_of line op ≡ true) × (value ≡ word_of (now base past) line word)) ⊎ ((is_back_of line op ≡ false) × (MayWrite line word value op ⊎ Held base past line word value)) → value ≡ word_of (now base (op ∷ past)) line word
+    go : (is_clean line past ≡ true → AtNextMark base past line word value → value ≡ word_of (now base past) line word) → ((is_back_of line op ≡ true) × (value ≡ word_of (now base past) line word)) ⊎ ((is_back_of line op ≡ false) × (MayWrite line word value op ⊎ AtNextMark base past line word value)) → value ≡ word_of (now base (op ∷ past)) line word
     go before (inl (back, same)) =
         same ∙ (sym (ap (λ lines. word_of lines line word) (applied-none op (now base past) (Back-writes_none line op back))) ∙ longer)
     go before (inr (other, inl written)) =
         absurd (other_line (not_written (is_back_of line op) (is_clean line past) other clean).0 (MayWrite-writes line word value op written))
-    go before (inr (other, inr held)) =
+    go before (inr (other, inr at_next_mark)) =
         let p = not_written (is_back_of line op) (is_clean line past) other clean in
-        before p.1 held ∙ (sym (still p.0) ∙ longer)
+        before p.1 at_next_mark ∙ (sym (still p.0) ∙ longer)

@@ -1,9 +1,12 @@
 pub mod Agree
+pub mod AnyLemmas
+pub mod AtNextMark
 pub mod Backed
 pub mod Bounds
-pub mod Held
+pub mod CrashLaws
 pub mod Lines
 pub mod Marks
-pub mod Rest
-pub mod Some
+pub mod OperationSteps
 pub mod Words
+pub mod WriteSteps
+pub mod WrittenLines

@@ -49,7 +49,7 @@ length-contents base [] = refl
 length-contents base (op ∷ log) =
     length-contents (applied op base) log ∙ length-applied op base
 
--- one log behind another
+-- one log after another
 pub contents-append : (base : List Line) (log more : List LogOp) → contents base (log ++ more) ≡ contents (contents base log) more
 unfolding contents
 contents-append base [] more = refl

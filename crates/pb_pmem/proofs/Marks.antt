@@ -1,11 +1,11 @@
--- Lemmas on marks and cuts of a log that has more operations behind it.
+-- Lemmas on marks and cuts of a log that has more operations after it.
 use Rattle.std.proofs.Common.{◌≡◌, ℕ, zero, suc, ◌+◌, ◌<◌, ◌≤◌, ◌⊎◌, Bool, true, false, cond, ◌||◌, List, [], ◌∷◌, ◌++◌, Any, ap, refl, inl, inr, arith, add-one}
 use Rattle.std.specs.List.{list_any}
 use Rattle.std.proofs.lemmas.List.Folds.{list_any-append}
 use Rattle.std.proofs.lemmas.Bool.{cases_Bool}
 use Rattle.pb_pmem.specs.declared.log.LogOp.{LogOp}
-use Rattle.pb_pmem.specs.Crash.{is_mark, is_sync, marks, through_last_sync, least_cut, through_mark, behind_mark, until_mark}
-use Rattle.pb_pmem.proofs.Some.{Any-nil, Any-here, Any-there, Any-cases}
+use Rattle.pb_pmem.specs.Crash.{is_mark, is_sync, marks, through_last_sync, least_cut, through_mark, after_mark, until_mark}
+use Rattle.pb_pmem.proofs.AnyLemmas.{Any-nil, Any-here, Any-there, Any-cases}
 
 pub marks-none : marks [] ≡ 0
 unfolding marks
@@ -26,7 +26,7 @@ marks_push_mark log op e = rw (marks-append, marks-first, e, marks-none) (omega 
 pub marks_push_other : (log : List LogOp) (op : LogOp) → is_mark op ≡ false → marks (log ++ op ∷ []) ≡ marks log
 marks_push_other log op e = rw (marks-append, marks-first, e, marks-none) (omega arith)
 
--- what stands up to a mark stays, whatever comes behind the log
+-- what stands up to a mark stays, whatever comes after the log
 pub through_mark-append : (cut : ℕ) (log more : List LogOp) → cut ≤ marks log → through_mark cut (log ++ more) ≡ through_mark cut log
 unfolding marks through_mark
 through_mark-append zero [] [] few = refl
@@ -52,20 +52,20 @@ through_mark-all (suc cut) (op ∷ log) few =
     go true few at_mark at_other = at_mark (omega arith)
     go false few at_mark at_other = at_other (omega arith)
 
-pub behind_mark-append : (cut : ℕ) (log more : List LogOp) → cut ≤ marks log → behind_mark cut (log ++ more) ≡ behind_mark cut log ++ more
-unfolding marks behind_mark
-behind_mark-append zero [] [] few = refl
-behind_mark-append zero [] (op ∷ more) few = refl
-behind_mark-append (suc cut) [] more few = absurd (omega arith)
-behind_mark-append zero (op ∷ log) more few = refl
-behind_mark-append (suc cut) (op ∷ log) more few =
-    go (is_mark op) few (behind_mark-append cut log more) (behind_mark-append (suc cut) log more)
+pub after_mark-append : (cut : ℕ) (log more : List LogOp) → cut ≤ marks log → after_mark cut (log ++ more) ≡ after_mark cut log ++ more
+unfolding marks after_mark
+after_mark-append zero [] [] few = refl
+after_mark-append zero [] (op ∷ more) few = refl
+after_mark-append (suc cut) [] more few = absurd (omega arith)
+after_mark-append zero (op ∷ log) more few = refl
+after_mark-append (suc cut) (op ∷ log) more few =
+    go (is_mark op) few (after_mark-append cut log more) (after_mark-append (suc cut) log more)
   where
-    go : (b : Bool) → suc cut ≤ cond b 1 0 + marks log → (cut ≤ marks log → behind_mark cut (log ++ more) ≡ behind_mark cut log ++ more) → (suc cut ≤ marks log → behind_mark (suc cut) (log ++ more) ≡ behind_mark (suc cut) log ++ more) → behind_mark (cond b cut (suc cut)) (log ++ more) ≡ behind_mark (cond b cut (suc cut)) log ++ more
+    go : (b : Bool) → suc cut ≤ cond b 1 0 + marks log → (cut ≤ marks log → after_mark cut (log ++ more) ≡ after_mark cut log ++ more) → (suc cut ≤ marks log → after_mark (suc cut) (log ++ more) ≡ after_mark (suc cut) log ++ more) → after_mark (cond b cut (suc cut)) (log ++ more) ≡ after_mark (cond b cut (suc cut)) log ++ more
     go true few at_mark at_other = at_mark (omega arith)
     go false few at_mark at_other = at_other (omega arith)
 
--- the last mark, put behind a log, is the cut that takes it whole
+-- the last mark, put after a log, is the cut that takes it whole
 pub through_mark_push : (log : List LogOp) (op : LogOp) → is_mark op ≡ true → through_mark (marks log + 1) (log ++ op ∷ []) ≡ log ++ op ∷ []
 unfolding marks through_mark
 through_mark_push [] op e = refl
@@ -75,30 +75,30 @@ through_mark_push (first ∷ log) op e = rw add-one (ap (λ l. first ∷ l) (go 
     go true h = let e : 1 + marks log ≡ marks log + 1 = omega arith in rw e h
     go false h = let e : suc (0 + marks log) ≡ marks log + 1 = omega arith in rw e h
 
-pub behind_mark-nil : (cut : ℕ) → behind_mark cut [] ≡ []
-unfolding behind_mark
-behind_mark-nil zero = refl
-behind_mark-nil (suc cut) = refl
+pub after_mark-nil : (cut : ℕ) → after_mark cut [] ≡ []
+unfolding after_mark
+after_mark-nil zero = refl
+after_mark-nil (suc cut) = refl
 
-pub behind_mark_push : (log : List LogOp) (op : LogOp) → is_mark op ≡ true → behind_mark (marks log + 1) (log ++ op ∷ []) ≡ []
-unfolding marks behind_mark
-behind_mark_push [] op e = behind_mark-nil (cond (is_mark op) 0 1)
-behind_mark_push (first ∷ log) op e = rw add-one (go (is_mark first) (behind_mark_push log op e))
+pub after_mark_push : (log : List LogOp) (op : LogOp) → is_mark op ≡ true → after_mark (marks log + 1) (log ++ op ∷ []) ≡ []
+unfolding marks after_mark
+after_mark_push [] op e = after_mark-nil (cond (is_mark op) 0 1)
+after_mark_push (first ∷ log) op e = rw add-one (go (is_mark first) (after_mark_push log op e))
   where
-    go : (b : Bool) → behind_mark (marks log + 1) (log ++ op ∷ []) ≡ [] → behind_mark (cond b (cond b 1 0 + marks log) (suc (cond b 1 0 + marks log))) (log ++ op ∷ []) ≡ []
+    go : (b : Bool) → after_mark (marks log + 1) (log ++ op ∷ []) ≡ [] → after_mark (cond b (cond b 1 0 + marks log) (suc (cond b 1 0 + marks log))) (log ++ op ∷ []) ≡ []
     go true h = let e : 1 + marks log ≡ marks log + 1 = omega arith in rw e h
     go false h = let e : suc (0 + marks log) ≡ marks log + 1 = omega arith in rw e h
 
--- how many marks stand behind a mark
-pub marks-behind_mark : (cut : ℕ) (log : List LogOp) → cut ≤ marks log → marks (behind_mark cut log) + cut ≡ marks log
-unfolding marks behind_mark
-marks-behind_mark zero [] few = refl
-marks-behind_mark (suc cut) [] few = absurd (omega arith)
-marks-behind_mark zero (op ∷ log) few = omega arith
-marks-behind_mark (suc cut) (op ∷ log) few =
-    go (is_mark op) few (marks-behind_mark cut log) (marks-behind_mark (suc cut) log)
+-- how many marks stand after a mark
+pub marks-after_mark : (cut : ℕ) (log : List LogOp) → cut ≤ marks log → marks (after_mark cut log) + cut ≡ marks log
+unfolding marks after_mark
+marks-after_mark zero [] few = refl
+marks-after_mark (suc cut) [] few = absurd (omega arith)
+marks-after_mark zero (op ∷ log) few = omega arith
+marks-after_mark (suc cut) (op ∷ log) few =
+    go (is_mark op) few (marks-after_mark cut log) (marks-after_mark (suc cut) log)
   where
-    go : (b : Bool) → suc cut ≤ cond b 1 0 + marks log → (cut ≤ marks log → marks (behind_mark cut log) + cut ≡ marks log) → (suc cut ≤ marks log → marks (behind_mark (suc cut) log) + suc cut ≡ marks log) → marks (behind_mark (cond b cut (suc cut)) log) + suc cut ≡ cond b 1 0 + marks log
+    go : (b : Bool) → suc cut ≤ cond b 1 0 + marks log → (cut ≤ marks log → marks (after_mark cut log) + cut ≡ marks log) → (suc cut ≤ marks log → marks (after_mark (suc cut) log) + suc cut ≡ marks log) → marks (after_mark (cond b cut (suc cut)) log) + suc cut ≡ cond b 1 0 + marks log
     go true few at_mark at_other = omega (arith, at_mark (omega arith))
     go false few at_mark at_other = omega (arith, at_other (omega arith))
 
@@ -130,7 +130,7 @@ pub until_mark_one : (op : LogOp) → until_mark (op ∷ []) ≡ cond (is_mark o
 unfolding until_mark
 until_mark_one op = refl
 
--- a mark behind a log is no part of what stands before its first mark
+-- a mark after a log is no part of what stands before its first mark
 pub until_mark_push_mark : (log : List LogOp) (op : LogOp) → is_mark op ≡ true → until_mark (log ++ op ∷ []) ≡ until_mark log
 unfolding until_mark
 until_mark_push_mark [] op e = rw e refl
@@ -196,14 +196,14 @@ pub through_mark-first : (cut : ℕ) (op : LogOp) (log : List LogOp) → through
 unfolding through_mark
 through_mark-first cut op log = refl
 
-pub behind_mark-zero : (log : List LogOp) → behind_mark 0 log ≡ log
-unfolding behind_mark
-behind_mark-zero [] = refl
-behind_mark-zero (op ∷ log) = refl
+pub after_mark-zero : (log : List LogOp) → after_mark 0 log ≡ log
+unfolding after_mark
+after_mark-zero [] = refl
+after_mark-zero (op ∷ log) = refl
 
-pub behind_mark-first : (cut : ℕ) (op : LogOp) (log : List LogOp) → behind_mark (suc cut) (op ∷ log) ≡ behind_mark (cond (is_mark op) cut (suc cut)) log
-unfolding behind_mark
-behind_mark-first cut op log = refl
+pub after_mark-first : (cut : ℕ) (op : LogOp) (log : List LogOp) → after_mark (suc cut) (op ∷ log) ≡ after_mark (cond (is_mark op) cut (suc cut)) log
+unfolding after_mark
+after_mark-first cut op log = refl
 
 pub until_mark-first : (op : LogOp) (log : List LogOp) → until_mark (op ∷ log) ≡ cond (is_mark op) [] (op ∷ until_mark log)
 unfolding until_mark

@@ -57,7 +57,7 @@ line_at-applied_same (Back first count) a b line same long = same
 line_at-applied_same Fence a b line same long = same
 line_at-applied_same Sync a b line same long = same
 
--- a word behind an operation is the word before it, or what it may write there
+-- a word after an operation is the word before it, or what it may write there
 pub word_of-applied : (op : LogOp) (lines : List Line) (line word : ℕ) → (word_of (applied op lines) line word ≡ word_of lines line word) ⊎ MayWrite line word (word_of (applied op lines) line word) op
 word_of-applied (Whole at to) lines line word = go (cases_eq line at)
   where

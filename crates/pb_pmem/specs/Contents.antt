@@ -1,11 +1,11 @@
--- What a device holds behind a log of operations.
+-- What a device holds after a log of operations.
 use Rattle.std.specs.Prelude.{List, [], ◌∷◌, slice_set}
 use Rattle.pb_pmem.specs.declared.line.Line.{Line}
 use Rattle.pb_pmem.specs.declared.log.LogOp.{LogOp}
 use Rattle.pb_pmem.specs.declared.log.LogOp.TheVariants.{Whole, Word, Back, Fence, Sync}
 use Rattle.pb_pmem.specs.Lines.{with_word, line_at}
 
--- the lines behind one operation: only the two kinds of writes change them
+-- the lines after one operation: only the two kinds of writes change them
 abbrev pub applied : LogOp → List Line → List Line
 applied (Whole line to) lines = slice_set lines line to
 applied (Word line word to) lines = slice_set lines line (with_word (line_at lines line) word to)

@@ -48,11 +48,11 @@ through_mark cut [] = []
 through_mark zero (op ∷ log) = []
 through_mark (suc cut) (op ∷ log) = op ∷ through_mark (if is_mark op then cut else suc cut) log
 
--- the log behind mark `cut`; the whole log for cut 0
-unfoldable pub behind_mark : ℕ → List LogOp → List LogOp
-behind_mark cut [] = []
-behind_mark zero (op ∷ log) = op ∷ log
-behind_mark (suc cut) (op ∷ log) = behind_mark (if is_mark op then cut else suc cut) log
+-- the log after mark `cut`; the whole log for cut 0
+unfoldable pub after_mark : ℕ → List LogOp → List LogOp
+after_mark cut [] = []
+after_mark zero (op ∷ log) = op ∷ log
+after_mark (suc cut) (op ∷ log) = after_mark (if is_mark op then cut else suc cut) log
 
 -- the log before its first mark
 unfoldable pub until_mark : List LogOp → List LogOp
@@ -77,17 +77,17 @@ is_back_of line (Back first count) = nat_le first line && nat_lt line (first + c
 is_back_of line Fence = false
 is_back_of line Sync = false
 
--- a write of this line, if it is one, has a `Back` of the line behind it
+-- a write of this line, if it is one, has a `Back` of the line after it
 abbrev pub is_backed : Option ℕ → List LogOp → Bool
-is_backed None behind = false
-is_backed (Some line) behind = list_any (is_back_of line) behind
+is_backed None after = false
+is_backed (Some line) after = list_any (is_back_of line) after
 
 -- a write of this line, if it is one, has none
 abbrev pub is_unbacked : Option ℕ → List LogOp → Bool
-is_unbacked None behind = false
-is_unbacked (Some line) behind = not (list_any (is_back_of line) behind)
+is_unbacked None after = false
+is_unbacked (Some line) after = not (list_any (is_back_of line) after)
 
--- the writes that have a `Back` of their line behind them, and those that have none, in their order
+-- the writes that have a `Back` of their line after them, and those that have none, in their order
 unfoldable pub backed_writes : List LogOp → List LogOp
 backed_writes [] = []
 backed_writes (op ∷ log) = if is_backed (line_written op) log then op ∷ backed_writes log else backed_writes log
@@ -96,15 +96,15 @@ unfoldable pub unbacked_writes : List LogOp → List LogOp
 unbacked_writes [] = []
 unbacked_writes (op ∷ log) = if is_unbacked (line_written op) log then op ∷ unbacked_writes log else unbacked_writes log
 
--- a write is settled where a `Back` of its line stands behind it and before mark `cut`
+-- a write is settled where a `Back` of its line stands after it and before mark `cut`
 abbrev pub settled_writes : ℕ → List LogOp → List LogOp
 settled_writes cut log = backed_writes (through_mark cut log)
 
--- it is barred where it stands behind mark `cut + 1`, and loose where it is neither:
+-- it is barred where it stands after mark `cut + 1`, and loose where it is neither:
 -- the loose writes are those before mark `cut` that aren't settled, and all between it and the next mark
 abbrev pub loose_writes : ℕ → List LogOp → List LogOp
 loose_writes cut log =
-    unbacked_writes (through_mark cut log) ++ until_mark (behind_mark cut log)
+    unbacked_writes (through_mark cut log) ++ until_mark (after_mark cut log)
 
 -- What a crash may leave
 
@@ -121,24 +121,24 @@ MayWrite line word value Fence = ⊥
 MayWrite line word value Sync = ⊥
 
 -- an image that a crash at this cut may leave: each word has its settled value, or one that a loose write of it may leave
-pub record IsLeftAt (base : List Line) (log : List LogOp) (cut : ℕ) (image : List Line) : Type 0 where
+pub record IsCrashImageAtCut (base : List Line) (log : List LogOp) (cut : ℕ) (image : List Line) : Type 0 where
   pub lines : length image ≡ length base
   pub words : (line word : ℕ)
       → (word_of image line word ≡ word_of (settled_content base cut log) line word)
       ⊎ Any (MayWrite line word (word_of image line word)) (loose_writes cut log)
 
--- an image that a crash behind the whole log may leave
-pub record IsLeft (base : List Line) (log : List LogOp) (image : List Line) : Type 0 where
+-- an image that a crash after the whole log may leave
+pub record IsCrashImage (base : List Line) (log : List LogOp) (image : List Line) : Type 0 where
   pub cut : ℕ
   pub low : least_cut log ≤ cut
   pub high : cut ≤ greatest_cut log
-  pub left : IsLeftAt base log cut image
+  pub left : IsCrashImageAtCut base log cut image
 
--- an image that a crash may leave behind the log's first `moment` operations
-abbrev pub MayLeave : List Line → List LogOp → ℕ → List Line → Type 0
-MayLeave base log moment image = IsLeft base (take moment log) image
+-- an image that a crash may leave after the log's first `moment` operations
+abbrev pub IsCrashImageAt : List Line → List LogOp → ℕ → List Line → Type 0
+IsCrashImageAt base log moment image = IsCrashImage base (take moment log) image
 
 -- a crash may leave one image alone, and that is the contents
 pub record IsAtRest (base : List Line) (log : List LogOp) : Type 0 where
-  pub left : MayLeave base log (length log) (contents base log)
-  pub alone : (image : List Line) → MayLeave base log (length log) image → image ≡ contents base log
+  pub left : IsCrashImageAt base log (length log) (contents base log)
+  pub alone : (image : List Line) → IsCrashImageAt base log (length log) image → image ≡ contents base log

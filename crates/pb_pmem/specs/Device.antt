@@ -63,6 +63,14 @@ IsMark (Back first count) = ⊥
 IsMark Fence = Unit {0}
 IsMark Sync = Unit {0}
 
+-- what a call of the device that fails may have added in place of its operation
+abbrev pub MayAdd : LogOp → LogOp → Type 0
+MayAdd (Whole line to) added = IsWholeOf line added
+MayAdd (Word line word to) added = added ≡ Word line word to
+MayAdd (Back first count) added = added ≡ Back first count
+MayAdd Fence added = added ≡ Fence
+MayAdd Sync added = IsMark added
+
 -- the lines that a device tells are all its lines
 abbrev pub IsWhole : Device → Type 0
 IsWhole device = IfSome device.now (λ lines. length lines ≡ LINES)

@@ -11,40 +11,41 @@ use Rattle.pb_pmem.specs.Crash.{is_mark, is_sync, is_back_of, line_written, MayW
 abbrev pub Words : Type 0
 Words = ℕ → ℕ → ℕ
 
--- what a device holds behind this past
+-- what a device holds after this past
 abbrev pub now : List Line → List LogOp → List Line
 now base past = contents base (reverse past)
 
--- what a mark put here would settle: behind a `Back` of the line what it holds, else a later write, or what was held before
-unfoldable pub Held : List Line → List LogOp → ℕ → ℕ → ℕ → Type 0
-Held base [] line word value = value ≡ word_of base line word
-Held base (op ∷ past) line word value =
-    MatchBool (is_back_of line op) (value ≡ word_of (now base past) line word) (MayWrite line word value op ⊎ Held base past line word value)
+-- what a mark put here would settle: after a `Back` of the line what the device holds, else a later write, or what a mark put earlier would
+-- have settled
+unfoldable pub AtNextMark : List Line → List LogOp → ℕ → ℕ → ℕ → Type 0
+AtNextMark base [] line word value = value ≡ word_of base line word
+AtNextMark base (op ∷ past) line word value =
+    MatchBool (is_back_of line op) (value ≡ word_of (now base past) line word) (MayWrite line word value op ⊎ AtNextMark base past line word value)
 
--- what the greatest cut allows: behind a mark what is held, else a write, or what was allowed before
+-- what the greatest cut allows: after a mark what that mark settles, else a write, or what was allowed before
 unfoldable pub Last : List Line → List LogOp → ℕ → ℕ → ℕ → Type 0
 Last base [] line word value = value ≡ word_of base line word
 Last base (op ∷ past) line word value =
-    MatchBool (is_mark op) (Held base past line word value) (MayWrite line word value op ⊎ Last base past line word value)
+    MatchBool (is_mark op) (AtNextMark base past line word value) (MayWrite line word value op ⊎ Last base past line word value)
 
-abbrev pub AllHeld : List Line → List LogOp → Words → Type 0
-AllHeld base past image = (line word : ℕ) → Held base past line word (image line word)
+abbrev pub AllAtNextMark : List Line → List LogOp → Words → Type 0
+AllAtNextMark base past image = (line word : ℕ) → AtNextMark base past line word (image line word)
 
 abbrev pub AllLast : List Line → List LogOp → Words → Type 0
 AllLast base past image = (line word : ℕ) → Last base past line word (image line word)
 
--- what a crash may leave: behind a sync what is held, else what the greatest cut allows, or what might be left before
+-- what a crash may leave: after a sync what that sync settles, else what the greatest cut allows, or what might be left before
 unfoldable pub Leaves : List Line → List LogOp → Words → Type 0
 Leaves base [] image = AllLast base [] image
 Leaves base (op ∷ past) image =
-    MatchBool (is_sync op) (AllHeld base past image) (AllLast base (op ∷ past) image ⊎ Leaves base past image)
+    MatchBool (is_sync op) (AllAtNextMark base past image) (AllLast base (op ∷ past) image ⊎ Leaves base past image)
 
 -- a line that is written is this one
 abbrev pub writes_line : ℕ → Option ℕ → Bool
 writes_line line None = false
 writes_line line (Some at) = at == line
 
--- the last write of a line, where there is one, has a `Back` of the line behind it
+-- the last write of a line, where there is one, has a `Back` of the line after it
 unfoldable pub is_clean : ℕ → List LogOp → Bool
 is_clean line [] = true
 is_clean line (op ∷ past) = is_back_of line op || (not (writes_line line (line_written op)) && is_clean line past)
@@ -61,4 +62,4 @@ IsGiven op lines image = (line word : ℕ) → is_back_of line op ≡ true → i
 pub record Bounds (base : List Line) (past : List LogOp) (A T S : Words → Type 0) : Type 0 where
   pub all : (image : Words) → Leaves base past image → A image
   pub last : (image : Words) → AllLast base past image → T image
-  pub held : (image : Words) → AllHeld base past image → S image
+  pub at_next_mark : (image : Words) → AllAtNextMark base past image → S image

@@ -1,10 +1,10 @@
 ghost use Rattle.std.specs.Prelude.{◌≡◌, ◌+◌, ◌<◌, ◌≤◌, OnOk, OnErr};
 ghost use Rattle.pb_pmem.specs.declared.log.LogOp.{LogOp};
-ghost use Rattle.pb_pmem.specs.Device.{Device, Adds, Fails, Reads, IsNoOp, IsWholeOf, Is, IsMark, IsWhole, IsReplay};
+ghost use Rattle.pb_pmem.specs.Device.{Device, Adds, Fails, Reads, IsNoOp, MayAdd, IsWhole, IsReplay};
 
 use crate::line::{LINES, Line};
 
-/// A call of a device failed. The device's count of faults rose in that call.
+/// A call of a device failed. The device's count of faults rose in that call, or stood at its last value.
 #[derive(Clone, Copy, Debug, PartialEq, Eq)]
 pub struct PmemFault;
 
@@ -20,7 +20,7 @@ pub struct DeviceFault {
 /// A device of [`LINES`] lines, as persistent memory is one.
 ///
 /// A contract sees it as a `Device`: its base and its log where it tells them, its lines where it tells them, and its count of faults.
-/// An answer Ok leaves the count as it was, and an error comes only where the count rose in that call. The base never changes.
+/// An answer Ok leaves the count as it was, and an error comes only where the count rose in that call, or stood at its last value. The base never changes.
 pub trait Pmem: Drop {
     /// What contracts see of the device.
     ghost seen: { Self → Device };
@@ -35,32 +35,32 @@ pub trait Pmem: Drop {
     fn write(&mut self, line: u32, from: &Line) -> Result<(), PmemFault>
         requires { line < LINES }
         ensures ok { OnOk result (Adds (LogOp.Whole line from.now) (seen self.old) (seen self.new)) }
-        ensures err { OnErr result (Fails (IsWholeOf line) (seen self.old) (seen self.new)) };
+        ensures err { OnErr result (Fails (MayAdd (LogOp.Whole line from.now)) (seen self.old) (seen self.new)) };
 
     /// Writes one word of a line. An error may have written it or not.
     fn set_word(&mut self, line: u32, word: u32, value: u64) -> Result<(), PmemFault>
         requires line { line < LINES }
         requires word { word < 8 }
         ensures ok { OnOk result (Adds (LogOp.Word line word value) (seen self.old) (seen self.new)) }
-        ensures err { OnErr result (Fails (Is (LogOp.Word line word value)) (seen self.old) (seen self.new)) };
+        ensures err { OnErr result (Fails (MayAdd (LogOp.Word line word value)) (seen self.old) (seen self.new)) };
 
-    /// Gives lines to the device, so that the marks behind it settle what was written to them. An error may have done so or not.
+    /// Gives lines to the device, so that the marks after it settle what was written to them. An error may have done so or not.
     fn write_back(&mut self, first: u32, count: u32) -> Result<(), PmemFault>
         requires { first + count ≤ LINES }
         ensures ok { OnOk result (Adds (LogOp.Back first count) (seen self.old) (seen self.new)) }
-        ensures err { OnErr result (Fails (Is (LogOp.Back first count)) (seen self.old) (seen self.new)) };
+        ensures err { OnErr result (Fails (MayAdd (LogOp.Back first count)) (seen self.old) (seen self.new)) };
 
     /// Orders what was written back before it, before all that comes after it. It doesn't wait for the device.
     /// An error may have ordered it or not.
     fn fence(&mut self) -> Result<(), PmemFault>
         ensures ok { OnOk result (Adds LogOp.Fence (seen self.old) (seen self.new)) }
-        ensures err { OnErr result (Fails (Is LogOp.Fence) (seen self.old) (seen self.new)) };
+        ensures err { OnErr result (Fails (MayAdd LogOp.Fence) (seen self.old) (seen self.new)) };
 
     /// A fence, and then waits until the device has settled what was written back before it.
     /// An error may have left a fence, a sync or nothing.
     fn sync(&mut self) -> Result<(), PmemFault>
         ensures ok { OnOk result (Adds LogOp.Sync (seen self.old) (seen self.new)) }
-        ensures err { OnErr result (Fails IsMark (seen self.old) (seen self.new)) };
+        ensures err { OnErr result (Fails (MayAdd LogOp.Sync) (seen self.old) (seen self.new)) };
 
     /// How often a call has failed. It stands still at its last value.
     fn faults(&self) -> u64

@@ -5,7 +5,9 @@ mod device;
 pub mod laws;
 mod line;
 mod log;
+mod operations;
 
 pub use device::{DeviceFault, Pmem, PmemFault};
 pub use line::{LINES, Line};
 pub use log::LogOp;
+pub use operations::{make, make_all, write_lines};

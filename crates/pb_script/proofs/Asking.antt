@@ -37,14 +37,14 @@ pub request_no_client : (kind : Kind) (clients : ℕ) (fields : List (List ℕ))
 unfolding asked_with
 request_no_client kind clients fields e = rw (request_of_fields kind clients fields, ← e) refl
 
-pub request_no_number : (kind : Kind) (clients : ℕ) (fields : List (List ℕ)) (client : ℕ) (behind : List (List ℕ)) → Some (client, behind) ≡ first_number 0 clients fields → None ≡ first_number 1 (LAST_NUMBER + 1) behind → None ≡ request_of kind clients fields
+pub request_no_number : (kind : Kind) (clients : ℕ) (fields : List (List ℕ)) (client : ℕ) (after : List (List ℕ)) → Some (client, after) ≡ first_number 0 clients fields → None ≡ first_number 1 (LAST_NUMBER + 1) after → None ≡ request_of kind clients fields
 unfolding asked_with numbered_with
-request_no_number kind clients fields client behind e f = rw (request_of_fields kind clients fields, ← e, ← f) refl
+request_no_number kind clients fields client after e f = rw (request_of_fields kind clients fields, ← e, ← f) refl
 
-pub request_no_operation : (kind : Kind) (clients : ℕ) (fields : List (List ℕ)) (client : ℕ) (behind : List (List ℕ)) (number : ℕ) (operation : List (List ℕ)) → Some (client, behind) ≡ first_number 0 clients fields → Some (number, operation) ≡ first_number 1 (LAST_NUMBER + 1) behind → None ≡ op_of kind operation → None ≡ request_of kind clients fields
+pub request_no_operation : (kind : Kind) (clients : ℕ) (fields : List (List ℕ)) (client : ℕ) (after : List (List ℕ)) (number : ℕ) (operation : List (List ℕ)) → Some (client, after) ≡ first_number 0 clients fields → Some (number, operation) ≡ first_number 1 (LAST_NUMBER + 1) after → None ≡ op_of kind operation → None ≡ request_of kind clients fields
 unfolding asked_with numbered_with request_with
-request_no_operation kind clients fields client behind number operation e f g = rw (request_of_fields kind clients fields, ← e, ← f, ← g) refl
+request_no_operation kind clients fields client after number operation e f g = rw (request_of_fields kind clients fields, ← e, ← f, ← g) refl
 
-pub request_whole : (kind : Kind) (clients : ℕ) (fields : List (List ℕ)) (client : ℕ) (behind : List (List ℕ)) (number : ℕ) (operation : List (List ℕ)) (op : Op) → Some (client, behind) ≡ first_number 0 clients fields → Some (number, operation) ≡ first_number 1 (LAST_NUMBER + 1) behind → Some op ≡ op_of kind operation → Some (record { client = client; number = number; op = op }) ≡ request_of kind clients fields
+pub request_whole : (kind : Kind) (clients : ℕ) (fields : List (List ℕ)) (client : ℕ) (after : List (List ℕ)) (number : ℕ) (operation : List (List ℕ)) (op : Op) → Some (client, after) ≡ first_number 0 clients fields → Some (number, operation) ≡ first_number 1 (LAST_NUMBER + 1) after → Some op ≡ op_of kind operation → Some (record { client = client; number = number; op = op }) ≡ request_of kind clients fields
 unfolding asked_with numbered_with request_with
-request_whole kind clients fields client behind number operation op e f g = rw (request_of_fields kind clients fields, ← e, ← f, ← g) refl
+request_whole kind clients fields client after number operation op e f g = rw (request_of_fields kind clients fields, ← e, ← f, ← g) refl

@@ -34,15 +34,15 @@ words_blank : (byte : ℕ) (bytes : List ℕ) → is_blank byte ≡ true → wor
 unfolding words
 words_blank byte bytes e = ap (filter (λ word. ltb 0 (length word))) (slice_split-cons_yes is_blank byte bytes e)
 
--- blanks at the front hold no word
-pub words_behind_blanks : (text : List ℕ) → words text ≡ words (drop (position_or_len is_field_byte text) text)
-words_behind_blanks [] = refl
-words_behind_blanks (byte ∷ bytes) =
+-- blanks at the start hold no word
+pub words_after_blanks : (text : List ℕ) → words text ≡ words (drop (position_or_len is_field_byte text) text)
+words_after_blanks [] = refl
+words_after_blanks (byte ∷ bytes) =
     ⊎_elim
     (λ (e : is_field_byte byte ≡ true). ap (λ n. words (drop n (byte ∷ bytes))) (sym (position_yes is_field_byte byte bytes e)))
     (λ (e : is_field_byte byte ≡ false).
     let blank : is_blank byte ≡ true = grind arith in
-    words_blank byte bytes blank ∙ words_behind_blanks bytes
+    words_blank byte bytes blank ∙ words_after_blanks bytes
     ∙ sym (ap (λ n. words (drop n (byte ∷ bytes))) (position_no is_field_byte byte bytes e) ∙ ap words (drop_past_first (position_or_len is_field_byte bytes) byte bytes)))
     (cases_Bool (is_field_byte byte))
 
@@ -51,13 +51,13 @@ unfolding words
 words_first word text rest some e =
     ap (filter (λ word. ltb 0 (length word))) e ∙ cond-true (ltb 0 (length word)) _ _ (lt-ltb 0 (length word) some)
 
--- behind them stands a word, up to the next blank
+-- after them stands a word, up to the next blank
 pub words_at_word : (text : List ℕ) → position_or_len is_field_byte text ≡ 0 → 0 < length text → words text ≡ take (position_or_len is_blank text) text ∷ words (drop (position_or_len is_blank text) text)
 unfolding words
-words_at_word text front some =
+words_at_word text prefix some =
     let n = position_or_len is_blank text in
     let most : n ≤ length text = prefix_len-le-length (λ x. not (is_blank x)) text in
-    let first : is_field_byte (get_or text 0 0) ≡ true = rw front at (passes_at_first is_field_byte text 0 (rw front some)) in
+    let first : is_field_byte (get_or text 0 0) ≡ true = rw prefix at (passes_at_first is_field_byte text 0 (rw prefix some)) in
     let positive : 0 < n = ⊎_elim (λ (h : 0 < n). h) (λ (h : n ≤ 0).
     let zero : n ≡ 0 = omega arith in
     let blank : is_blank (get_or text 0 0) ≡ true = rw zero at (passes_at_first is_blank text 0 (rw zero some)) in
@@ -116,13 +116,13 @@ lines_last (byte ∷ next ∷ bytes) some last =
     lines_byte byte (next ∷ bytes) e ∙ ap (onto_first byte) (lines_last (next ∷ bytes) (omega arith) (grind arith)))
     (cases_Bool (is_line_end byte))
 
--- behind the blanks at the front there are none
-pub no_blanks_behind_blanks : (text : List ℕ) → position_or_len is_field_byte (drop (position_or_len is_field_byte text) text) ≡ 0
-no_blanks_behind_blanks [] = refl
-no_blanks_behind_blanks (byte ∷ bytes) =
+-- after the blanks at the start there are none
+pub no_blanks_after_blanks : (text : List ℕ) → position_or_len is_field_byte (drop (position_or_len is_field_byte text) text) ≡ 0
+no_blanks_after_blanks [] = refl
+no_blanks_after_blanks (byte ∷ bytes) =
     ⊎_elim
     (λ (e : is_field_byte byte ≡ true). ap (λ n. position_or_len is_field_byte (drop n (byte ∷ bytes))) (position_yes is_field_byte byte bytes e) ∙ position_yes is_field_byte byte bytes e)
     (λ (e : is_field_byte byte ≡ false).
     ap (λ n. position_or_len is_field_byte (drop n (byte ∷ bytes))) (position_no is_field_byte byte bytes e)
-    ∙ ap (position_or_len is_field_byte) (drop_past_first (position_or_len is_field_byte bytes) byte bytes) ∙ no_blanks_behind_blanks bytes)
+    ∙ ap (position_or_len is_field_byte) (drop_past_first (position_or_len is_field_byte bytes) byte bytes) ∙ no_blanks_after_blanks bytes)
     (cases_Bool (is_field_byte byte))

@@ -65,7 +65,7 @@ action_word_is QueueTake = word_from_tests _ refl refl
 no_blank : (byte : ℕ) → 33 ≤ byte → is_blank byte ≡ false
 no_blank byte h = grind (arith, nat_tests)
 
--- the first word of a text that goes on behind a space
+-- the first word of a text that goes on after a space
 pub words_spaced : (word rest : List ℕ) → IsWord word → words (word ++ (32 ∷ rest)) ≡ word ∷ words rest
 unfolding words
 words_spaced word rest h =
@@ -96,14 +96,14 @@ word_text word h = All-weaker (λ byte. 33 ≤ byte) (λ byte. 32 ≤ byte) (λ 
 pub space_text : (text : List ℕ) → IsText text → IsText (32 ∷ text)
 space_text text h = All-cons (λ byte. 32 ≤ byte) 32 text (lit≤ tt) h
 
-pub append_text : (front back : List ℕ) → IsText front → IsText back → IsText (front ++ back)
-append_text front back h l = All-append (λ byte. 32 ≤ byte) front back h l
+pub append_text : (prefix back : List ℕ) → IsText prefix → IsText back → IsText (prefix ++ back)
+append_text prefix back h l = All-append (λ byte. 32 ≤ byte) prefix back h l
 
 pub spaced_text : (ns : List ℕ) → AllSmall ns → IsText (spaced ns)
 spaced_text [] small = λ k d h. absurd (omega arith)
 spaced_text (n ∷ ns) small = space_text (decimal n ++ spaced ns) (append_text (decimal n) (spaced ns) (word_text (decimal n) (decimal_word n small.0)) (spaced_text ns small.1))
 
--- a line in front of a source
+-- a source that begins with a line
 pub lines_first : (line rest : List ℕ) → IsText line → lines (line ++ (10 ∷ rest)) ≡ line ∷ lines rest
 lines_first line rest h =
     let source = line ++ (10 ∷ rest) in

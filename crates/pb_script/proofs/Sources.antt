@@ -50,27 +50,27 @@ Progress_none kind clients source reading asks last many lines requests refused 
 }
 
 -- one more line was read
-pub Progress_more : (kind : Kind) (clients : ℕ) (source rest : List ℕ) (line behind : List ℕ) (reading new : Reading) (before : Progress kind clients source rest reading) → lines rest ≡ line ∷ lines behind → length behind < length rest → Holds kind clients (before.read ++ line ∷ []) new → Progress kind clients source behind new
-Progress_more kind clients source rest line behind reading new before cut shorter held =
+pub Progress_more : (kind : Kind) (clients : ℕ) (source rest : List ℕ) (line after : List ℕ) (reading new : Reading) (before : Progress kind clients source rest reading) → lines rest ≡ line ∷ lines after → length after < length rest → Holds kind clients (before.read ++ line ∷ []) new → Progress kind clients source after new
+Progress_more kind clients source rest line after reading new before cut shorter held =
     let read = before.read in
     let room = before.room in
     record {
       read = read ++ line ∷ [];
-      cut = before.cut ∙ ap (λ r. read ++ r) cut ∙ sym (append_assoc read (line ∷ []) (lines behind));
+      cut = before.cut ∙ ap (λ r. read ++ r) cut ∙ sym (append_assoc read (line ∷ []) (lines after));
       held = held;
       room = omega (arith, length_push read line);
     }
 
 -- a fault at a line is the source's
-pub fault_at_line : (kind : Kind) (clients : ℕ) (source rest : List ℕ) (line behind : List ℕ) (reading new : Reading) (before : Progress kind clients source rest reading) (fault : ScriptFault) → lines rest ≡ line ∷ lines behind → HoldsMore kind clients (before.read ++ line ∷ []) new (Err fault) → IsReadAs kind clients (lines source) (Err fault)
-fault_at_line kind clients source rest line behind reading new before Memory cut h = tt
-fault_at_line kind clients source rest line behind reading new before Many cut h =
+pub fault_at_line : (kind : Kind) (clients : ℕ) (source rest : List ℕ) (line after : List ℕ) (reading new : Reading) (before : Progress kind clients source rest reading) (fault : ScriptFault) → lines rest ≡ line ∷ lines after → HoldsMore kind clients (before.read ++ line ∷ []) new (Err fault) → IsReadAs kind clients (lines source) (Err fault)
+fault_at_line kind clients source rest line after reading new before Memory cut h = tt
+fault_at_line kind clients source rest line after reading new before Many cut h =
     let read = before.read in
-    let whole : lines source ≡ (read ++ line ∷ []) ++ lines behind = before.cut ∙ ap (λ r. read ++ r) cut ∙ sym (append_assoc read (line ∷ []) (lines behind)) in
-    let len : length (request_lines (lines source)) ≡ length (request_lines (read ++ line ∷ [])) + length (request_lines (lines behind)) =
-    ap (λ l. length (request_lines l)) whole ∙ ap length (request_lines_append (read ++ line ∷ []) (lines behind)) ∙ length-append (request_lines (read ++ line ∷ [])) (request_lines (lines behind)) in
+    let whole : lines source ≡ (read ++ line ∷ []) ++ lines after = before.cut ∙ ap (λ r. read ++ r) cut ∙ sym (append_assoc read (line ∷ []) (lines after)) in
+    let len : length (request_lines (lines source)) ≡ length (request_lines (read ++ line ∷ [])) + length (request_lines (lines after)) =
+    ap (λ l. length (request_lines l)) whole ∙ ap length (request_lines_append (read ++ line ∷ []) (lines after)) ∙ length-append (request_lines (read ++ line ∷ [])) (request_lines (lines after)) in
     omega arith
-fault_at_line kind clients source rest line behind reading new before (Line number) cut h = absurd h
+fault_at_line kind clients source rest line after reading new before (Line number) cut h = absurd h
 
 -- a fault that `?` passes on
 pub passed_on : (kind : Kind) (clients : ℕ) (lines : List (List ℕ)) (result : Result (Vec Ask) ScriptFault) (fault : ScriptFault) → IsErrAnd result (λ e. e ≡ fault) → IsReadAs kind clients lines (Err fault) → IsReadAs kind clients lines result

@@ -38,7 +38,7 @@ pub request_lines_yes : (read : List (List ℕ)) (line : List ℕ) → is_reques
 unfolding request_lines
 request_lines_yes read line e = request_lines_append read (line ∷ []) ∙ ap (λ r. request_lines read ++ r) (cond-true (is_request (fields line)) (fields line ∷ []) [] e)
 
--- numbers go on following behind one more request
+-- numbers go on following after one more request
 pub NumbersFollow_push : (asks : List Ask) (ask : Ask) → NumbersFollow asks → Follows asks ask → NumbersFollow (asks ++ ask ∷ [])
 NumbersFollow_push asks ask before next = λ k d h.
     ⊎_elim
@@ -91,14 +91,14 @@ IsScript_front kind clients lines more asks h = record {
   follow = NumbersFollow_take (length (request_lines lines)) asks h.follow;
 }
 
--- lines behind the first refused one change nothing
+-- lines after the first refused one change nothing
 pub IsRefused_more : (kind : Kind) (clients : ℕ) (read more : List (List ℕ)) (number : ℕ) → number ≤ length read → IsRefused kind clients read number → IsRefused kind clients (read ++ more) number
 IsRefused_more kind clients read more number within h = record {
   before = (h.before.0, rw (take-append-le (number - 1) read more (omega arith)) h.before.1);
   none = λ asks script. h.none asks (rw (take-append-le number read more within) at script);
 }
 
--- the line behind a script, with which the lines are none
+-- the line after a script, with which the lines are none
 pub IsRefused_now : (kind : Kind) (clients : ℕ) (read : List (List ℕ)) (line : List ℕ) (asks : List Ask) → IsScript kind clients read asks → ((all : List Ask) → IsScript kind clients (read ++ line ∷ []) all → ⊥) → IsRefused kind clients (read ++ line ∷ []) (length read + 1)
 IsRefused_now kind clients read line asks h none = record {
   before = (asks, rw (take_at read (line ∷ []) (length read + 1 - 1) (omega arith)) h);
@@ -111,7 +111,7 @@ known_some n some = cond-false (eqb n 0) None (Some n) (ne_eqb n 0 (λ e. omega 
 last_number_push : (client : ℕ) (asks : List Ask) (ask : Ask) → last_number client (asks ++ ask ∷ []) ≡ cond (eqb ask.client client) (Some ask.number) (last_number client asks)
 last_number_push client asks ask = fold_push (λ (last : Option ℕ) (ask : Ask). cond (eqb ask.client client) (Some ask.number) last) None asks ask
 
--- the last numbers behind one more request
+-- the last numbers after one more request
 pub HoldsLast_push : (last : List ℕ) (asks : List Ask) (ask : Ask) → length last ≡ 16 → ask.client < 16 → 1 ≤ ask.number → HoldsLast last asks → HoldsLast (set last ask.client ask.number) (asks ++ ask ∷ [])
 HoldsLast_push last asks ask len within some h = λ client l.
     ⊎_elim
@@ -151,7 +151,7 @@ pub unrefused : (kind : Kind) (clients : ℕ) (read : List (List ℕ)) (asks : L
 unrefused kind clients read asks last None e h = h
 unrefused kind clients read asks last (Some number) e h = absurd (false≢true (sym e))
 
--- behind a line that asks for nothing
+-- after a line that asks for nothing
 pub Holds_skip : (kind : Kind) (clients : ℕ) (read : List (List ℕ)) (line : List ℕ) (reading : Reading) → is_request (fields line) ≡ false → Holds kind clients read reading → Holds kind clients (read ++ line ∷ []) (record reading { lines = reading.lines + 1 })
 Holds_skip kind clients read line reading e h = record {
   lines = ap (λ n. n + 1) h.lines ∙ sym (length_push read line);
@@ -161,7 +161,7 @@ Holds_skip kind clients read line reading e h = record {
   script = skip_by kind clients read line reading.asks.items reading.last reading.refused e h.script;
 }
 
--- behind a request line that comes after a refused one
+-- after a request line that comes after a refused one
 pub Holds_after : (kind : Kind) (clients : ℕ) (read : List (List ℕ)) (line : List ℕ) (reading : Reading) → is_request (fields line) ≡ true → reading.requests < MOST_REQUESTS → is_some reading.refused ≡ true → Holds kind clients read reading → Holds kind clients (read ++ line ∷ []) (record reading { lines = reading.lines + 1; requests = reading.requests + 1 })
 Holds_after kind clients read line reading e room refused h = record {
   lines = ap (λ n. n + 1) h.lines ∙ sym (length_push read line);
@@ -171,7 +171,7 @@ Holds_after kind clients read line reading e room refused h = record {
   script = refused_by kind clients read line reading.asks.items reading.last reading.refused refused h.script;
 }
 
--- behind the first refused line
+-- after the first refused line
 pub Holds_refused : (kind : Kind) (clients : ℕ) (read : List (List ℕ)) (line : List ℕ) (reading : Reading) → is_request (fields line) ≡ true → reading.requests < MOST_REQUESTS → is_some reading.refused ≡ false
     → ((ask : Ask) → request_of kind clients (fields line) ≡ Some ask → (ask.client < 16) × (FollowsLast reading.last ask → ⊥))
     → Holds kind clients read reading → Holds kind clients (read ++ line ∷ []) (record reading { lines = reading.lines + 1; requests = reading.requests + 1; refused = Some (reading.lines + 1) })
@@ -192,7 +192,7 @@ none_if : (o : Option ℕ) → is_some o ≡ false → o ≡ None
 none_if None e = refl
 none_if (Some n) e = absurd (false≢true (sym e))
 
--- behind one more request
+-- after one more request
 pub Holds_push : (kind : Kind) (clients : ℕ) (read : List (List ℕ)) (line : List ℕ) (reading new : Reading) (ask : Ask) → is_request (fields line) ≡ true → reading.requests < MOST_REQUESTS → is_some reading.refused ≡ false
     → request_of kind clients (fields line) ≡ Some ask → ask.client < 16 → 1 ≤ ask.number → FollowsLast reading.last ask
     → new.asks.items ≡ reading.asks.items ++ ask ∷ [] → new.last ≡ set reading.last ask.client ask.number → new.lines ≡ reading.lines + 1 → new.requests ≡ reading.requests + 1 → new.refused ≡ reading.refused

@@ -2,7 +2,7 @@
 use Rattle.std.specs.Prelude.{◌≡◌, ℕ, ◌≤◌, List, [], ◌∷◌, Option, Some, None, MatchOption, take, slice_index}
 use Rattle.pb_script.specs.Request.{◌>>=◌, number_within, arguments_of}
 
--- the number that the first of some words writes, and the words behind it
+-- the number that the first of some words writes, and the words after it
 unfoldable pub first_number : ℕ → ℕ → List (List ℕ) → Option (ℕ × List (List ℕ))
 first_number low high [] = None
 first_number low high (word ∷ others) = do

@@ -28,7 +28,7 @@ HoldsScript kind clients read reading = MatchOption reading.refused
     (IsScript kind clients read reading.asks.items × HoldsLast reading.last reading.asks.items)
     (λ number. (number ≤ length read) × IsRefused kind clients read number)
 
--- what is held behind these lines
+-- what is held after these lines
 pub record Holds (kind : Kind) (clients : ℕ) (read : List (List ℕ)) (reading : Reading) : Type 0 where
   pub lines : reading.lines ≡ length read
   pub requests : reading.requests ≡ length (request_lines read)
@@ -36,7 +36,7 @@ pub record Holds (kind : Kind) (clients : ℕ) (read : List (List ℕ)) (reading
   pub few : reading.requests ≤ MOST_REQUESTS
   pub script : HoldsScript kind clients read reading
 
--- the same behind one more line, or there are too many request lines; want of memory apart
+-- the same after one more line, or there are too many request lines; want of memory apart
 abbrev pub HoldsMore : Kind → ℕ → List (List ℕ) → Reading → Result (Unit {0}) ScriptFault → Type 0
 HoldsMore kind clients read reading (Ok done) = Holds kind clients read reading
 HoldsMore kind clients read reading (Err Memory) = Unit {0}

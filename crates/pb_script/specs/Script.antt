@@ -19,7 +19,7 @@ request_lines lines = filter is_request (map fields lines)
 abbrev pub last_number : ℕ → List Ask → Option ℕ
 last_number client asks = fold (λ last ask. if ask.client == client then Some ask.number else last) None asks
 
--- a request has the number behind the one of its client's last request before it, if there is one
+-- a request has the number after the one of its client's last request before it, if there is one
 abbrev pub Follows : List Ask → Ask → Type 0
 Follows before ask = IfSome (last_number ask.client before) (λ last. ask.number ≡ last + 1)
 

@@ -15,7 +15,7 @@ is_blank byte = byte == 32 || byte == 9
 abbrev pub is_field_byte : ℕ → Bool
 is_field_byte byte = not (is_blank byte)
 
--- the lines of a source: each ends with LF, which the last may lack, and nothing behind a last LF is a line
+-- the lines of a source: each ends with LF, which the last may lack, and nothing after a last LF is a line
 unfoldable pub lines : List ℕ → List (List ℕ)
 lines [] = []
 lines (byte ∷ bytes) = if is_line_end byte then [] ∷ lines bytes else onto_first byte (lines bytes)

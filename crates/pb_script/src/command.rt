@@ -28,7 +28,7 @@ pub enum Command {
     Drill { seed: u64, clients: u32, count: u32 },
 }
 
-/// The command that the words behind the device spell. None exactly where they have none of the forms, one word more or less
+/// The command that the words after the device spell. None exactly where they have none of the forms, one word more or less
 /// included.
 #[tactic(auto, unfolding(crate::specs::Command::command_of))]
 pub fn parse_words(words: &[String]) -> Option<Command>

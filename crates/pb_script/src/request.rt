@@ -33,7 +33,7 @@ pub fn read_request(text: &[u8], kind: Kind, clients: u32) -> Option<Ask>
     })
 }
 
-/// The number that a text's first word writes, if it is at least `low` and below `high`, and what stands behind it.
+/// The number that a text's first word writes, if it is at least `low` and below `high`, and what stands after it.
 #[tactic(auto, unfolding(crate::specs::Readers::first_number))]
 fn next_number(text: &[u8], low: u64, high: u64) -> Option<(u64, &[u8])>
     ensures value { option_map (λ read. (read.0, words read.1.now)) result ≡ first_number low high (words text.now) }
@@ -68,9 +68,9 @@ fn read_arguments(text: &[u8], count: usize) -> Option<[u64; 3]>
     let mut values = [0; 3];
     let mut rest = text;
     for i in 0..count {
-        let (word, behind) = cut_word(rest)?;
+        let (word, after) = cut_word(rest)?;
         values[i] = parse_number(word)?;
-        rest = behind;
+        rest = after;
     }
     match cut_word(rest) {
         None => Some(values),

@@ -65,9 +65,9 @@ fn read_script(
     };
     let mut rest = source;
     while !rest.is_empty() {
-        let (line, behind) = cut_line(rest);
+        let (line, after) = cut_line(rest);
         reading.read_line(line, kind, clients)?;
-        rest = behind;
+        rest = after;
     }
     reading.finish()
 }
@@ -91,7 +91,7 @@ struct Reading {
 }
 
 impl Reading {
-    /// Reads one more line. `Many` comes where it is a request line too many. Behind an error nothing is said of what is held:
+    /// Reads one more line. `Many` comes where it is a request line too many. After an error nothing is said of what is held:
     /// the reading ends there.
     fn read_line(&mut self, line: &[u8], kind: Kind, clients: u32) -> Result<(), ScriptFault>
         requires clients { clients ≤ MOST_CLIENTS }
@@ -118,7 +118,7 @@ impl Reading {
         Ok(())
     }
 
-    /// Whether a request has the number behind the one of its client's last request, if it has one.
+    /// Whether a request has the number after the one of its client's last request, if it has one.
     fn follows(&self, ask: &Ask) -> bool
         requires client { ask.now.client < MOST_CLIENTS }
         requires number { 1 ≤ ask.now.number }

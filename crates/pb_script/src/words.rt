@@ -4,7 +4,7 @@ ghost use Rattle.std.specs.List.{position_or_len};
 ghost use Rattle.std.specs.Str.Lines.{strip_carriage_return};
 ghost use Rattle.pb_script.specs.Words.{is_line_end, is_blank, is_field_byte, lines, words};
 
-/// The first line of a source, and what stands behind it.
+/// The first line of a source, and what stands after it.
 pub fn cut_line(source: &[u8]) -> (&[u8], &[u8])
     requires { 0 < length source.now }
     ensures cut { lines source.now ≡ result.0.now ∷ lines result.1.now }
@@ -23,12 +23,12 @@ pub fn without_return(line: &[u8]) -> &[u8]
     ensures { result.now ≡ strip_carriage_return line.now }
 {
     match line {
-        [front @ .., b'\r'] => front,
+        [prefix @ .., b'\r'] => prefix,
         _ => line,
     }
 }
 
-/// The first word of a text and what stands behind it, if it has a word.
+/// The first word of a text and what stands after it, if it has a word.
 pub fn cut_word(text: &[u8]) -> Option<(&[u8], &[u8])>
     ensures { MatchOption result (words text.now ≡ []) (λ cut. words text.now ≡ cut.0.now ∷ words cut.1.now) }
 {

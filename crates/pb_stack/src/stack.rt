@@ -3,8 +3,7 @@ ghost use Rattle.pb_object.specs.declared.kind.Kind.TheVariants.{Stack as StackK
 ghost use Rattle.pb_object.specs.Object.{Items};
 ghost use Rattle.pb_object.specs.Stack.{item_reply, top_item, after_push, push_reply};
 
-use crate::lines::take_items;
-use pb_object::{Action, Answer, Kind, NotAState, Object, Op, Reply, put_items};
+use pb_object::{Action, Answer, Kind, NotAState, Object, Op, Reply, put_items, take_items};
 use pb_pmem::Line;
 use std::alloc::{AllocError, Global};
 use std::marker::Model;
@@ -117,7 +116,7 @@ impl Object for Stack {
     }
 
     fn take_lines(&mut self, from: &[Line]) -> Result<(), NotAState> {
-        self.depth = take_items(&mut self.places, from)?;
+        self.depth = take_items::<Stack>(&mut self.places, from)?;
         Ok(())
     }
 

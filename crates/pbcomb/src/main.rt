@@ -39,7 +39,7 @@ fn run<R: Env + Input + Print + AllocGlobal>(rt: &R) -> Result<u8, AllocError> {
     Ok(done.status)
 }
 
-/// The words behind the program's name, and none where one of them isn't UTF-8.
+/// The words after the program's name, and none where one of them isn't UTF-8.
 fn words<R: Env + AllocGlobal>(rt: &R) -> Result<Vec<String>, AllocError> {
     match env::args(rt) {
         Ok(args) => args.skip(1).collect(rt.alloc()),

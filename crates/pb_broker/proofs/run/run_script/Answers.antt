@@ -8,8 +8,12 @@ use Rattle.pb_broker.specs.Run.{IsRunOf, IsRunStopped, StopsRun}
 use Rattle.pb_pmem.specs.Count.{Rose}
 use Rattle.pb_broker.specs.Serving.{WhereReadyWith, AreServed, FailsToServeAll}
 use Rattle.pb_pair.proofs.Opened.{written_whole}
-use Rattle.pb_broker.proofs.RunLemmas.{run_is, run_stops, refused_is}
+use Rattle.pb_broker.proofs.RunLemmas.{run_is, run_stops, format_why, refused_is}
 use Rattle.pb_broker.proofs.run.run_script.Goals as goal
+
+pub stop_of-requires : goal.stop_of-requires
+stop_of-requires g c =
+    format_why c.args.script.size (g.P.Pmem.seen c.args.device) (g.P.Pmem.seen c.in-Err.refused.device) c.in-Err.refused.why c.in-Err.ensures.err
 
 pub returns-in-Err : goal.returns-in-Err
 returns-in-Err g c =

@@ -10,12 +10,12 @@ returns-in-Some c =
       c.in-Some.ensures ∙ ap (λ rest. codes "get " ++ rest) read.1 ∙ sym (get_text c.in_ok-key.key c.in_ok-key.rest.now),
     )
 
-pub returns-in-Some-behind : goal.returns-in-Some-behind
-returns-in-Some-behind c =
+pub returns-in-Some-after : goal.returns-in-Some-after
+returns-in-Some-after c =
     let read = c.in_ok-key-2.ensures in
-    rw c.operation-in-Some-behind.ensures (
+    rw c.operation-in-Some-after.ensures (
       put_is c.in_ok-key-2.key c.in_ok-key-2.value read.0 read.1,
-      c.in-Some-behind.ensures ∙ ap (λ rest. codes "put " ++ rest) read.2 ∙ sym (put_text c.in_ok-key-2.key c.in_ok-key-2.value c.in_ok-key-2.rest.now),
+      c.in-Some-after.ensures ∙ ap (λ rest. codes "put " ++ rest) read.2 ∙ sym (put_text c.in_ok-key-2.key c.in_ok-key-2.value c.in_ok-key-2.rest.now),
     )
 
 pub returns : goal.returns

@@ -1,26 +1,22 @@
--- One more client line: its number is added, and it is one that the format allows.
-use Rattle.std.proofs.Common.{◌<◌, length, arith, ◌∙◌, ap, below_more, subst}
-use Rattle.std.proofs.lemmas.List.{get_or_read}
-use Rattle.std.proofs.lemmas.List.Sums.{sum_by_more}
-use Rattle.pb_pmem.specs.declared.line.Line.{Line}
-use Rattle.pb_pmem.specs.Lines.{zero_line}
-use Rattle.pb_object.specs.declared.request.Kept.{Kept}
-use Rattle.pb_layout.specs.Header.{word}
-use Rattle.pb_layout.specs.Record.{IsClientLine}
-use Rattle.pb_layout.proofs.Records.{number_few}
+-- One more client: its newest number is added.
+use Rattle.std.proofs.Common.{ℕ, sym, ap, arith, add-one}
+use Rattle.pb_layout.specs.Record.{number_sum}
+use Rattle.pb_layout.proofs.Records.{number_sum-none, number_sum-more, number_read}
 use Rattle.pb_layout.proofs.record.sum_numbers.Goals as goal
 
-pub loop-i-preserved : goal.loop-i-preserved
-loop-i-preserved c =
-    let inside : c.loop-i.i < length c.args.lines.now = omega arith in
-    let read = get_or_read c.args.lines.now c.loop-i.i c.index-lines-i.result inside c.index-lines-i.is zero_line in
-    let step = sum_by_more (λ (line : Line). word line 0) c.args.lines.now c.loop-i.i zero_line inside in
-    let kept = c.in-Some.ensures in
-    let number = ap (λ (k : Kept). k.number) kept.1 in
-    let same = number ∙ ap (λ (l : Line). word l 0) read in
-    let few = number_few _ _ _ kept.0 in
-    record {
-      sum = omega arith;
-      few = omega arith;
-      clients = below_more _ _ c.loop-i.invariant.clients (subst (λ (l : Line). IsClientLine c.args.kind c.args.side l) read kept.0);
-    }
+pub loop-client-init : goal.loop-client-init
+loop-client-init c = record { sum = sym (number_sum-none c.args.lines.now); few = omega arith }
+
+pub overflow_add-sum-in-loop-client : goal.overflow_add-sum-in-loop-client
+overflow_add-sum-in-loop-client c =
+    let small = c.requires.small c.loop-client.client c.loop-client-test.true in
+    let read = number_read c.args.lines.now c.loop-client.client c.index-lines-client.result (omega arith) c.index-lines-client.is in
+    omega arith
+
+pub loop-client-preserved : goal.loop-client-preserved
+loop-client-preserved c =
+    let small = c.requires.small c.loop-client.client c.loop-client-test.true in
+    let read = number_read c.args.lines.now c.loop-client.client c.index-lines-client.result (omega arith) c.index-lines-client.is in
+    let more = number_sum-more c.args.lines.now c.loop-client.client in
+    let next = ap (λ (n : ℕ). number_sum c.args.lines.now n) (add-one c.loop-client.client) in
+    record { sum = omega arith; few = omega arith }

@@ -1,11 +1,10 @@
-use Rattle.std.proofs.Common.{◌≡◌, ◌*◌, ◌≤◌, sum_by, take}
-use Rattle.pb_layout.specs.Header.{word}
-use Rattle.pb_layout.specs.Record.{AreClientLines}
+use Rattle.std.proofs.Common.{◌≡◌, ◌*◌, ◌≤◌}
+use Rattle.pb_object.specs.declared.request.TheConstants.{LAST_NUMBER}
+use Rattle.pb_layout.specs.Record.{number_sum}
 use Rattle.pb_layout.proofs.record.sum_numbers.Given as goal
 
-abbrev pub invariant-loop-i : goal.invariant-loop-i
-invariant-loop-i l = record {
-  sum : l.sum ≡ sum_by (λ line. word line 0) (take l.i l.lines);
-  few : l.sum ≤ l.i * 72057594037927935;
-  clients : AreClientLines l.kind l.side l.lines l.i;
+abbrev pub invariant-loop-client : goal.invariant-loop-client
+invariant-loop-client l = record {
+  sum : l.sum ≡ number_sum l.lines l.client;
+  few : l.sum ≤ l.client * LAST_NUMBER;
 }

@@ -1,4 +1,4 @@
-use Rattle.pb_pmem.proofs.Rest.{IsAtRest-Sync}
+use Rattle.pb_pmem.proofs.CrashLaws.{IsAtRest-Sync}
 use Rattle.pb_pmem.proofs.laws.sync_brings_to_rest.Goals as goal
 
 pub returns : goal.returns

@@ -1,4 +1,4 @@
-use Rattle.pb_pmem.proofs.Rest.{word_of-Sync}
+use Rattle.pb_pmem.proofs.CrashLaws.{word_of-Sync}
 use Rattle.pb_pmem.proofs.laws.sync_keeps_what_was_given.Goals as goal
 
 pub returns : goal.returns

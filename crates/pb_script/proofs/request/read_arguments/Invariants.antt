@@ -7,5 +7,5 @@ abbrev pub invariant-loop-i : goal.invariant-loop-i
 invariant-loop-i l = record {
   three : length l.values ≡ 3;
   reads : HasRead (words l.text) (take l.i l.values) (words l.rest);
-  zero_behind : (k : ℕ) → l.i ≤ k → get_or l.values k 0 ≡ 0;
+  zero_after : (k : ℕ) → l.i ≤ k → get_or l.values k 0 ≡ 0;
 }

@@ -1,0 +1,68 @@
+-- The operations of the calls on a region, in their order.
+use Rattle.std.specs.Prelude.{ℕ, ◌+◌, ◌%◌, ◌==◌, List, [], ◌∷◌, ◌++◌, length, if◌then◌else◌}
+use Rattle.pb_pmem.specs.declared.line.Line.{Line}
+use Rattle.pb_pmem.specs.declared.log.LogOp.{LogOp}
+use Rattle.pb_pmem.specs.declared.log.LogOp.TheVariants.{Whole, Word, Back, Fence, Sync}
+use Rattle.pb_pmem.specs.Operations.{writes_from}
+use Rattle.pb_pmem.specs.Lines.{zero_line}
+use Rattle.pb_object.specs.Codes.{kind_code}
+use Rattle.pb_object.specs.Standing.{Standing, side_count, rounds_of}
+use Rattle.pb_layout.specs.Header.{record_length, old_record_length, old_first_record_line}
+use Rattle.pb_layout.specs.Region.{record_place}
+use Rattle.pb_layout.specs.declared.header.Header.{Header}
+use Rattle.pb_layout.specs.declared.header.TheConstants.{MAGIC, VERSION}
+
+-- Storing a record. First its lines are given to the device, and fenced ..
+abbrev pub fenced_ops : List LogOp → ℕ → ℕ → List LogOp
+fenced_ops writes first count = writes ++ Back first count ∷ Fence ∷ []
+
+-- .. all of them written
+abbrev pub stage_ops : ℕ → List Line → List LogOp
+stage_ops first lines = fenced_ops (writes_from first lines) first (length lines)
+
+-- .. and then the index word of its side switches to it
+abbrev pub commit_ops : ℕ → ℕ → List LogOp
+commit_ops side index = Word (1 + side) 0 index ∷ Back (1 + side) 1 ∷ Sync ∷ []
+
+-- a store of these lines after so many rounds of a side
+abbrev pub spare_place : Header → ℕ → ℕ → ℕ
+spare_place head side round = record_place head side ((round + 1) % 2)
+
+abbrev pub store_ops : Header → ℕ → ℕ → List Line → List LogOp
+store_ops head side round lines = stage_ops (spare_place head side round) lines ++ commit_ops side (round + 1)
+
+-- a store by these writes: a `Back` of the whole spare record and a fence stand after them, before the index word
+abbrev pub stage_by : List LogOp → Header → ℕ → ℕ → List LogOp
+stage_by writes head side round = fenced_ops writes (spare_place head side round) (record_length head)
+
+abbrev pub store_by : List LogOp → Header → ℕ → ℕ → List LogOp
+store_by writes head side round = stage_by writes head side round ++ commit_ops side (round + 1)
+
+-- Formatting. The words of the header after the magic ..
+abbrev pub header_words : Header → List LogOp
+header_words head =
+    Word 0 1 VERSION ∷ Word 0 2 (kind_code head.kind) ∷ Word 0 3 head.clients ∷ Word 0 4 head.size ∷ Word 0 5 (old_record_length head) ∷ Word 0 6 (old_first_record_line head) ∷ Word 0 7 0 ∷ []
+
+-- .. stand after the first records of the sides and the two lines that count rounds, and all of it is given to the device and fenced ..
+abbrev pub prepare_ops : Header → List Line → List Line → List LogOp
+prepare_ops head first second =
+    writes_from (record_place head 0 0) first ++ (writes_from (record_place head 1 0) second ++ (Whole 1 zero_line ∷ Whole 2 zero_line ∷ (header_words head ++ (Back 0 3 ∷ Back (record_place head 0 0) (record_length head) ∷ (second_back ++ Fence ∷ [])))))
+  where
+    second_back : List LogOp
+    second_back = if side_count head.kind == 2 then Back (record_place head 1 0) (record_length head) ∷ [] else []
+
+-- .. before the magic makes it a region
+abbrev pub publish_ops : List LogOp
+publish_ops = Word 0 0 MAGIC ∷ Back 0 1 ∷ Sync ∷ []
+
+abbrev pub format_ops : Header → List Line → List Line → List LogOp
+format_ops head first second = prepare_ops head first second ++ publish_ops
+
+-- Settling, to these round numbers of the sides
+abbrev pub settle_ops : Header → ℕ → ℕ → List LogOp
+settle_ops head first second =
+    Word 0 0 MAGIC ∷ Word 1 0 first ∷ ((if side_count head.kind == 2 then Word 2 0 second ∷ [] else []) ++ Back 0 3 ∷ Sync ∷ [])
+
+-- settling to a standing
+abbrev pub settle_to : Header → Standing → List LogOp
+settle_to head s = settle_ops head (rounds_of s 0) (rounds_of s 1)

@@ -1,0 +1,5 @@
+use Rattle.pb_layout_laws.proofs.Calls.{calls-append}
+use Rattle.pb_layout_laws.proofs.laws.calls.calls_compose.Goals as goal
+
+pub returns : goal.returns
+returns c = λ base log ops more s first second between members. calls-append

@@ -1,5 +1,0 @@
-use Rattle.pb_layout_laws.proofs.Formatting.{cut_off_while_appearing}
-use Rattle.pb_layout_laws.proofs.laws.formatting_cut_off_while_appearing.Goals as goal
-
-pub returns : goal.returns
-returns c = cut_off_while_appearing

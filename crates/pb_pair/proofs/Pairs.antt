@@ -1,0 +1,371 @@
+-- What holds of a pair after each of its calls.
+use Rattle.std.proofs.Common.{◌≡◌, ◌≢◌, ℕ, zero, suc, ◌+◌, ◌*◌, ◌%◌, ◌<◌, ◌≤◌, ◌⊎◌, Bool, true, false, List, [], ◌∷◌, ◌++◌, length, take, drop, append_assoc, Option, Some, None, IfSome, option_map, refl, sym, ap, subst, ◌∙◌, inl, inr, arith}
+use Rattle.std.specs.List.{All}
+use Rattle.std.proofs.lemmas.List.Elements.{All-nil, All-append, All-cons}
+use Rattle.pb_pmem.specs.declared.device.DeviceFault.{DeviceFault}
+use Rattle.pb_pmem.specs.declared.line.Line.{Line}
+use Rattle.pb_pmem.specs.declared.line.TheConstants.{LINES}
+use Rattle.pb_pmem.specs.declared.log.LogOp.{LogOp}
+use Rattle.pb_pmem.specs.declared.log.LogOp.TheVariants.{Whole, Word, Back, Fence, Sync}
+use Rattle.pb_pmem.specs.Contents.{contents}
+use Rattle.pb_pmem.specs.Device.{Device, Fails, IsNoOp, IsWhole}
+use Rattle.pb_pmem.specs.Lines.{line_at}
+use Rattle.pb_pmem.specs.Operations.{writes_from, after, Does, Stops, StopsBy}
+use Rattle.pb_pmem.proofs.Lines.{contents-append, length-contents}
+use Rattle.pb_pmem.proofs.OperationSteps.{does_none}
+use Rattle.pb_pmem.proofs.WrittenLines.{writes_from-none, writes_from-more, line_at-writes_here}
+use Rattle.pb_object.specs.declared.kind.Kind.{Kind}
+use Rattle.pb_object.specs.declared.kind.Kind.TheVariants.{Map, Stack, Heap, Queue}
+use Rattle.pb_object.specs.Standing.{side_count}
+use Rattle.pb_layout.specs.declared.header.Header.{Header}
+use Rattle.pb_layout.specs.Shape.{IsHeader}
+use Rattle.pb_layout.specs.Header.{record_length}
+use Rattle.pb_layout.specs.Record.{IsRecord}
+use Rattle.pb_layout.specs.Cell.{cell_line_of}
+use Rattle.pb_layout.specs.Region.{record_place, cell_place}
+use Rattle.pb_layout.specs.RegionOps.{commit_ops, spare_place}
+use Rattle.pb_layout.specs.Represents.{record_at}
+use Rattle.pb_layout.proofs.OneRecovery.{record_fits}
+use Rattle.pb_layout.proofs.Records.{piece_is, line_at-piece}
+use Rattle.pb_layout_laws.proofs.Geometry.{parity-lt, parity-one, record_after, record_after_cells, cell_below}
+use Rattle.pb_pair.specs.declared.known.Doubt.{Doubt}
+use Rattle.pb_pair.specs.declared.known.Known.{Known}
+use Rattle.pb_pair.specs.declared.known.Known.TheVariants.{Sure, Failed}
+use Rattle.pb_pair.specs.declared.side.Sides.{Sides}
+use Rattle.pb_pair.specs.Cells.{IsNothing, IsFree, put_ops}
+use Rattle.pb_pair.specs.Store.{writes_over, stored_ops, stored_side, IsNext}
+use Rattle.pb_pair.specs.View.{SideView, DoubtView, PairView, at_side, side_of, no_side, forgotten, if_known, side_view, doubt_view, pair_view, HasRoom, IsSide, HoldsSide, IsDoubt, IsPair, HasFailed, HasForgotten}
+use Rattle.pb_pair.proofs.Changes.{changes-spare, changes-there}
+use Rattle.pb_pair.proofs.Untouched.{IsApartFrom, Spares, record_at-spared, line_at-spared, blocks_apart_of}
+
+-- A call that failed
+
+-- a record in doubt belongs to the sides' round numbers alone
+same_doubt_of : (head : Header) (first second other another : SideView) (doubt : DoubtView) → first.round ≡ other.round → second.round ≡ another.round → IsDoubt head first second doubt → IsDoubt head other another doubt
+same_doubt_of head first second other another doubt one two is = record {
+  here = is.here;
+  long = is.long;
+  own = subst (λ (n : ℕ). IsRecord head doubt.side (n + 1) doubt.lines) (rounds doubt.side) is.own;
+}
+  where
+    rounds : (side : ℕ) → (at_side first second side).round ≡ (at_side other another side).round
+    rounds zero = one
+    rounds (suc side) = two
+
+-- the pair after it
+abbrev pub failed_as : PairView → Device → Option DoubtView → PairView
+failed_as old device left = record {
+  device = device;
+  head = old.head;
+  first = forgotten old.first;
+  second = forgotten old.second;
+  known = Failed;
+  doubt = left;
+}
+
+pub failed_pair : (old : PairView) (device : Device) (left : Option DoubtView) → IsPair old → ((doubt : DoubtView) → left ≡ Some doubt → IsDoubt old.head old.first old.second doubt) → IsPair (failed_as old device left)
+failed_pair old device left sound in_doubt = record {
+  valid = sound.valid;
+  sides = sides;
+  one_side = λ one. ap forgotten (sound.one_side one);
+  holds = λ image now side here. holds image side;
+  unsure_first = λ unsure. refl;
+  unsure_second = λ unsure. refl;
+  in_doubt = λ doubt is. same_doubt_of old.head old.first old.second (forgotten old.first) (forgotten old.second) doubt refl refl (in_doubt doubt is);
+  decided = λ other. absurd (other refl);
+}
+  where
+    sides : (side : ℕ) → side < side_count old.head.kind → IsSide old.head side (at_side (forgotten old.first) (forgotten old.second) side)
+    sides zero here = let is = sound.sides 0 here in record { long = is.long; own = is.own }
+    sides (suc side) here = let is = sound.sides (suc side) here in record { long = is.long; own = is.own }
+
+    holds : (image : List Line) (side : ℕ) → HoldsSide old.head side (at_side (forgotten old.first) (forgotten old.second) side) image
+    holds image zero = record { in_use = λ e. cc; spare = λ lines e. cc }
+    holds image (suc side) = record { in_use = λ e. cc; spare = λ lines e. cc }
+
+-- the fields of a pair whose call failed
+pub record IsFailedAs (old : PairView) (sides : Sides) (known : Known) (doubt : Option Doubt) (left : Option DoubtView) : Type 0 where
+  pub first : side_view sides.first ≡ forgotten old.first
+  pub second : side_view sides.second ≡ forgotten old.second
+  pub known_is : known ≡ Failed
+  pub left_is : option_map (doubt_view sides) doubt ≡ left
+  pub in_doubt : (d : DoubtView) → left ≡ Some d → IsDoubt old.head old.first old.second d
+
+pub failed_view : (old : PairView) (device : Device) (sides : Sides) (known : Known) (doubt : Option Doubt) (left : Option DoubtView) → IsFailedAs old sides known doubt left → pair_view device old.head sides known doubt ≡ failed_as old device left
+failed_view old device sides known doubt left are = λ i. record {
+  device = device;
+  head = old.head;
+  first = are.first i;
+  second = are.second i;
+  known = are.known_is i;
+  doubt = are.left_is i;
+}
+
+pub has_failed : (IsPrefix : List LogOp → Type 0) (old : PairView) (device : Device) (sides : Sides) (known : Known) (doubt : Option Doubt) (left : Option DoubtView) (fault : DeviceFault) → IsPair old → IsFailedAs old sides known doubt left → StopsBy IsPrefix fault old.device device → HasFailed IsPrefix left old fault (pair_view device old.head sides known doubt)
+has_failed IsPrefix old device sides known doubt left fault sound are stops = record {
+  sound = subst IsPair (sym (failed_view old device sides known doubt left are)) (failed_pair old device left sound are.in_doubt);
+  device = stops;
+  head = refl;
+  first = are.first;
+  second = are.second;
+  known = are.known_is;
+  doubt = are.left_is;
+}
+
+-- the records stay in their memory
+pub room_left : (old new : Sides) → HasRoom old → HasForgotten old new → HasRoom new
+room_left old new room same = record {
+  first = ap (λ v. length v.items) same.first_spare ∙ (room.first ∙ sym (ap (λ (part : SideView). length part.lines) same.first));
+  second = ap (λ v. length v.items) same.second_spare ∙ (room.second ∙ sym (ap (λ (part : SideView). length part.lines) same.second));
+}
+
+pub doubt_left : (old new : Sides) (doubt : Option Doubt) → HasForgotten old new → option_map (doubt_view new) doubt ≡ option_map (doubt_view old) doubt
+doubt_left old new None same = refl
+doubt_left old new (Some doubt) same = λ i. Some (record {
+  side = doubt.side;
+  lines = at_side (same.first_spare i).items (same.second_spare i).items doubt.side;
+  called = doubt.called;
+})
+
+-- a call that changed no record
+pub fails_keeping : (device : Device) (head : Header) (old new : Sides) (known now : Known) (doubt : Option Doubt) → IsPair (pair_view device head old known doubt) → HasForgotten old new → now ≡ Failed → IsFailedAs (pair_view device head old known doubt) new now doubt (option_map (doubt_view old) doubt)
+fails_keeping device head old new known now doubt sound same failed = record {
+  first = same.first;
+  second = same.second;
+  known_is = failed;
+  left_is = doubt_left old new doubt same;
+  in_doubt = sound.in_doubt;
+}
+
+-- a call that stopped, with the counts that it answers
+pub stops_by : (IsPrefix : List LogOp → Type 0) (old new : Device) (fault : DeviceFault) (from to : ℕ) → fault ≡ record { from = from; to = to } → from ≡ old.faults → to ≡ new.faults → Stops IsPrefix old new → StopsBy IsPrefix fault old new
+stops_by IsPrefix old new fault from to is before after stops = record {
+  from = ap (λ (f : DeviceFault). f.from) is ∙ before;
+  to = ap (λ (f : DeviceFault). f.to) is ∙ after;
+  stops = stops;
+}
+
+-- a read that failed
+pub failed_read : (old new : Device) → Fails IsNoOp old new → Stops IsNothing old new
+failed_read old new fails = record { rose = fails.rose; ops = []; cut = refl; told = same ∙ (does_none old).told }
+  where
+    same : new.told ≡ old.told
+    same = elim fails.told [ inl e ↦ e | inr more ↦ absurd more.1 ]
+
+-- What operations leave of the records
+
+-- lines before a call, where they are told after it
+pub now_before : (ops : List LogOp) (old new : Option (List Line)) (image : List Line) → new ≡ option_map (after ops) old → new ≡ Some image → (before : List Line) × (old ≡ Some before) × (image ≡ contents before ops)
+now_before ops None new image grown now = absurd (cc (grown, now))
+now_before ops (Some before) new image grown now = (before, refl, one_some image (contents before ops) (sym now ∙ grown))
+  where
+    one_some : (a b : List Line) → ◌≡◌ {A = Option (List Line)} (Some a) (Some b) → a ≡ b
+    one_some a b e = cc
+
+-- a pair over a device whose records are as before
+pub moved_pair : (old : PairView) (device : Device) (ops : List LogOp) → IsPair old → device.now ≡ option_map (after ops) old.device.now → ((side which : ℕ) → side < side_count old.head.kind → All (Spares (record_place old.head side which) (record_length old.head)) ops) → IsPair (record old { device = device })
+moved_pair old device ops sound grown spares = record {
+  valid = sound.valid;
+  sides = sound.sides;
+  one_side = sound.one_side;
+  holds = holds;
+  unsure_first = sound.unsure_first;
+  unsure_second = sound.unsure_second;
+  in_doubt = sound.in_doubt;
+  decided = sound.decided;
+}
+  where
+    holds : (image : List Line) → device.now ≡ Some image → (side : ℕ) → side < side_count old.head.kind → HoldsSide old.head side (side_of old side) image
+    holds image now side here =
+        let before = now_before ops old.device.now device.now image grown now in
+        let was = sound.holds before.0 before.1 side here in
+        let same = λ (which : ℕ). ap (λ (l : List Line). record_at l old.head side which) before.2 ∙ record_at-spared ops before.0 old.head side which (spares side which here) in
+        record {
+          in_use = λ written. same ((side_of old side).round % 2) ∙ was.in_use written;
+          spare = λ lines is. same (((side_of old side).round + 1) % 2) ∙ was.spare lines is;
+        }
+
+pub sure_not_failed : ◌≡◌ {A = Known} Sure Failed → ⊥
+sure_not_failed e = cc
+
+-- Putting a cell
+
+put-spares : (head : Header) (position value side which : ℕ) → IsHeader head → head.kind ≡ Queue → All (Spares (record_place head side which) (record_length head)) (put_ops head position value)
+put-spares head position value side which valid queue =
+    let Out : LogOp → Type 0 = Spares (record_place head side which) (record_length head) in
+    All-cons Out (Whole (cell_place head position) (cell_line_of position value)) (Back (cell_place head position) 1 ∷ []) (inl (omega (arith, cell_below head position valid queue, record_after_cells head side which)))
+    (All-cons Out (Back (cell_place head position) 1) [] tt (All-nil Out))
+
+pub put_pair : (old : PairView) (device : Device) (position value : ℕ) → IsPair old → IsFree old position → Does (put_ops old.head position value) old.device device → IsPair (record old { device = device })
+put_pair old device position value sound free does =
+    moved_pair old device (put_ops old.head position value) sound does.now (λ side which here. put-spares old.head position value side which sound.valid free.queue)
+
+pub put_none : (old : PairView) (position : ℕ) → IsPair old → IsFree old position → old.doubt ≡ None
+put_none old position sound free = sound.decided (λ failed. sure_not_failed (sym free.known ∙ failed))
+
+-- Storing
+
+pub sides_few : (kind : Kind) (side : ℕ) → side < side_count kind → side < 2
+sides_few Map side here = omega arith
+sides_few Stack side here = omega arith
+sides_few Heap side here = omega arith
+sides_few Queue side here = here
+
+pub writes-spare : (at count first : ℕ) (lines : List Line) → (at + count ≤ first) ⊎ (first + length lines ≤ at) → All (Spares at count) (writes_from first lines)
+writes-spare at count first [] apart = subst (All (Spares at count)) (sym (writes_from-none first)) (All-nil (Spares at count))
+writes-spare at count first (line ∷ lines) apart =
+    subst (All (Spares at count)) (sym (writes_from-more first line lines)) (All-cons (Spares at count) (Whole first line) (writes_from (suc first) lines) (out apart) (writes-spare at count (suc first) lines (further apart)))
+  where
+    further : (at + count ≤ first) ⊎ (first + suc (length lines) ≤ at) → (at + count ≤ suc first) ⊎ (suc first + length lines ≤ at)
+    further (inl before) = inl (omega arith)
+    further (inr after) = inr (omega arith)
+
+    out : (at + count ≤ first) ⊎ (first + suc (length lines) ≤ at) → IsApartFrom at count first
+    out (inl before) = inr before
+    out (inr after) = inl (omega arith)
+
+over-spare : (at count first : ℕ) (spare : Option (List Line)) (lines : List Line) → (at + count ≤ first) ⊎ (first + length lines ≤ at) → All (Spares at count) (writes_over first spare lines)
+over-spare at count first None lines apart = writes-spare at count first lines apart
+over-spare at count first (Some before) lines apart = changes-spare at count first before lines apart
+
+-- what stands behind the writes of the lines
+abbrev pub closing_ops : ℕ → ℕ → ℕ → ℕ → List LogOp
+closing_ops first count side index = Back first count ∷ Fence ∷ Word (1 + side) 0 index ∷ Back (1 + side) 1 ∷ Sync ∷ []
+
+closing-spares : (at count first many side index : ℕ) → side < 2 → 3 ≤ at → All (Spares at count) (closing_ops first many side index)
+closing-spares at count first many side index few after =
+    let Out : LogOp → Type 0 = Spares at count in
+    All-cons Out (Back first many) (Fence ∷ Word (1 + side) 0 index ∷ Back (1 + side) 1 ∷ Sync ∷ []) tt
+    (All-cons Out Fence (Word (1 + side) 0 index ∷ Back (1 + side) 1 ∷ Sync ∷ []) tt
+    (All-cons Out (Word (1 + side) 0 index) (Back (1 + side) 1 ∷ Sync ∷ []) (inl (omega arith))
+    (All-cons Out (Back (1 + side) 1) (Sync ∷ []) tt (All-cons Out Sync [] tt (All-nil Out)))))
+
+stored_in_two : (head : Header) (side : ℕ) (part : SideView) (lines : List Line) → stored_ops head side part lines ≡ writes_over (spare_place head side part.round) part.spare lines ++ closing_ops (spare_place head side part.round) (length lines) side (part.round + 1)
+stored_in_two head side part lines =
+    append_assoc (writes_over (spare_place head side part.round) part.spare lines) (Back (spare_place head side part.round) (length lines) ∷ Fence ∷ []) (commit_ops side (part.round + 1))
+
+-- another record
+stored-spares : (head : Header) (side : ℕ) (part : SideView) (lines : List Line) (other which : ℕ) → side < 2 → length lines ≡ record_length head → 2 * other + which ≢ 2 * side + (part.round + 1) % 2 → All (Spares (record_place head other which) (record_length head)) (stored_ops head side part lines)
+stored-spares head side part lines other which few long apart =
+    let at = record_place head other which in
+    let count = record_length head in
+    let first = spare_place head side part.round in
+    subst (All (Spares at count)) (sym (stored_in_two head side part lines))
+    (All-append (Spares at count) (writes_over first part.spare lines) (closing_ops first (length lines) side (part.round + 1))
+    (over-spare at count first part.spare lines (blocks_apart_of head side ((part.round + 1) % 2) other which (length lines) long apart))
+    (closing-spares at count first (length lines) side (part.round + 1) few (record_after head other which)))
+
+-- the lines are there after the writes ..
+pub over-there : (image : List Line) (first : ℕ) (spare : Option (List Line)) (lines : List Line) → ((before : List Line) → spare ≡ Some before → (place : ℕ) → place < length lines → line_at image (first + place) ≡ line_at before place) → first + length lines ≤ length image → (place : ℕ) → place < length lines → line_at (contents image (writes_over first spare lines)) (first + place) ≡ line_at lines place
+over-there image first None lines holds fits place inside = line_at-writes_here image first lines place inside fits
+over-there image first (Some before) lines holds fits place inside = changes-there image first before lines (holds before refl) fits place inside
+
+-- .. and after the store
+stored-there : (image : List Line) (head : Header) (side : ℕ) (part : SideView) (lines : List Line) → length image ≡ LINES → IsHeader head → side < side_count head.kind → length lines ≡ record_length head → HoldsSide head side part image → record_at (contents image (stored_ops head side part lines)) head side ((part.round + 1) % 2) ≡ lines
+stored-there image head side part lines whole valid here long holds =
+    ap (λ (n : ℕ). take n (drop first new)) (sym long) ∙ piece_is new lines first (omega (arith, fits, length-contents image (stored_ops head side part lines))) at
+  where
+    first : ℕ
+    first = spare_place head side part.round
+
+    new : List Line
+    new = contents image (stored_ops head side part lines)
+
+    mid : List Line
+    mid = contents image (writes_over first part.spare lines)
+
+    fits : first + length lines ≤ length image
+    fits = omega (arith, record_fits head side ((part.round + 1) % 2) valid here (parity-lt (part.round + 1)))
+
+    before : (old : List Line) → part.spare ≡ Some old → (place : ℕ) → place < length lines → line_at image (first + place) ≡ line_at old place
+    before old is place inside =
+        sym (line_at-piece image first (record_length head) place (omega (arith, long))) ∙ ap (λ (l : List Line). line_at l place) (holds.spare old is)
+
+    at : (place : ℕ) → place < length lines → line_at new (first + place) ≡ line_at lines place
+    at place inside =
+        ap (λ (l : List LogOp). line_at (contents image l) (first + place)) (stored_in_two head side part lines)
+        ∙ (ap (λ (l : List Line). line_at l (first + place)) (contents-append image (writes_over first part.spare lines) (closing_ops first (length lines) side (part.round + 1)))
+        ∙ (line_at-spared (closing_ops first (length lines) side (part.round + 1)) mid first (length lines) (first + place) (omega arith) (omega arith) (closing-spares first (length lines) first (length lines) side (part.round + 1) (sides_few head.kind side here) (record_after head side ((part.round + 1) % 2)))
+        ∙ over-there image first part.spare lines before fits place inside))
+
+known_lines : (written : Bool) (lines known : List Line) → if_known written lines ≡ Some known → (written ≡ true) × (lines ≡ known)
+known_lines true lines known e = (refl, cc)
+known_lines false lines known e = absurd (cc)
+
+-- what is known of the stored side
+stored_holds : (image : List Line) (head : Header) (side : ℕ) (part : SideView) (lines : List Line) → length image ≡ LINES → IsHeader head → side < side_count head.kind → length lines ≡ record_length head → HoldsSide head side part image → HoldsSide head side (stored_side part lines) (contents image (stored_ops head side part lines))
+stored_holds image head side part lines whole valid here long holds = record {
+  in_use = λ written. stored-there image head side part lines whole valid here long holds;
+  spare = spare;
+}
+  where
+    other : 2 * side + part.round % 2 ≢ 2 * side + (part.round + 1) % 2
+    other e = parity-one part.round (omega arith)
+
+    spare : (known : List Line) → if_known part.written part.lines ≡ Some known → record_at (contents image (stored_ops head side part lines)) head side ((part.round + 1 + 1) % 2) ≡ known
+    spare known is =
+        let told = known_lines part.written part.lines known is in
+        let two : (part.round + 1 + 1) % 2 ≡ part.round % 2 = omega arith in
+        ap (record_at (contents image (stored_ops head side part lines)) head side) two
+        ∙ (record_at-spared (stored_ops head side part lines) image head side (part.round % 2) (stored-spares head side part lines side (part.round % 2) (sides_few head.kind side here) long other)
+        ∙ (holds.in_use told.0 ∙ told.1))
+
+-- and of the other one
+other_holds : (image : List Line) (head : Header) (side other : ℕ) (part another : SideView) (lines : List Line) → side < side_count head.kind → other ≢ side → length lines ≡ record_length head → HoldsSide head other another image → HoldsSide head other another (contents image (stored_ops head side part lines))
+other_holds image head side other part another lines here apart long holds =
+    let kept : (which : ℕ) → which < 2 → record_at (contents image (stored_ops head side part lines)) head other which ≡ record_at image head other which =
+    λ which low. record_at-spared (stored_ops head side part lines) image head other which (stored-spares head side part lines other which (sides_few head.kind side here) long (λ e. apart (omega (arith, low, parity-lt (part.round + 1))))) in
+    record {
+      in_use = λ written. kept (another.round % 2) (parity-lt another.round) ∙ holds.in_use written;
+      spare = λ known is. kept ((another.round + 1) % 2) (parity-lt (another.round + 1)) ∙ holds.spare known is;
+    }
+
+-- the pair after a store
+abbrev pub stored_as : PairView → Device → ℕ → List Line → PairView
+stored_as old device side lines = record {
+  device = device;
+  head = old.head;
+  first = at_side (stored_side old.first lines) old.first side;
+  second = at_side old.second (stored_side old.second lines) side;
+  known = Sure;
+  doubt = None;
+}
+
+pub stored_pair : (old : PairView) (device : Device) (side : ℕ) (lines : List Line) → IsPair old → IsWhole old.device → IsNext old side lines → Does (stored_ops old.head side (side_of old side) lines) old.device device → IsPair (stored_as old device side lines)
+stored_pair old device side lines sound whole next does = record {
+  valid = sound.valid;
+  sides = sides side next.here next.long next.own;
+  one_side = one_side side next.here;
+  holds = λ image now. let before = now_before (stored_ops old.head side (side_of old side) lines) old.device.now device.now image does.now now in λ other here. subst (HoldsSide old.head other (side_of (stored_as old device side lines) other)) (sym before.2) (holds before.0 (whole_image before.0 before.1) (sound.holds before.0 before.1) side other next.here next.long here);
+  unsure_first = λ unsure. absurd (unsure refl);
+  unsure_second = λ unsure. absurd (unsure refl);
+  in_doubt = λ doubt e. absurd (cc);
+  decided = λ other. refl;
+}
+  where
+    whole_image : (image : List Line) → old.device.now ≡ Some image → length image ≡ LINES
+    whole_image image now = subst (λ (o : Option (List Line)). IfSome o (λ lines. length lines ≡ LINES)) now whole
+
+    sides : (side : ℕ) → side < side_count old.head.kind → length lines ≡ record_length old.head → IsRecord old.head side ((side_of old side).round + 1) lines → (other : ℕ) → other < side_count old.head.kind → IsSide old.head other (side_of (stored_as old device side lines) other)
+    sides zero here long own zero within = record { long = long; own = own }
+    sides zero here long own (suc other) within = sound.sides (suc other) within
+    sides (suc side) here long own zero within = sound.sides zero within
+    sides (suc side) here long own (suc other) within =
+        let few = sides_few old.head.kind (suc side) here in
+        let low = sides_few old.head.kind (suc other) within in
+        let same : suc side ≡ suc other = omega arith in
+        record { long = long; own = subst (λ (n : ℕ). IsRecord old.head n (old.second.round + 1) lines) same own }
+
+    one_side : (side : ℕ) → side < side_count old.head.kind → side_count old.head.kind ≡ 1 → at_side old.second (stored_side old.second lines) side ≡ no_side
+    one_side zero here one = sound.one_side one
+    one_side (suc side) here one = absurd (omega arith)
+
+    holds : (image : List Line) → length image ≡ LINES → ((other : ℕ) → other < side_count old.head.kind → HoldsSide old.head other (side_of old other) image) → (side other : ℕ) → side < side_count old.head.kind → length lines ≡ record_length old.head → other < side_count old.head.kind → HoldsSide old.head other (side_of (stored_as old device side lines) other) (contents image (stored_ops old.head side (side_of old side) lines))
+    holds image full was zero zero here long within = stored_holds image old.head 0 old.first lines full sound.valid here long (was 0 here)
+    holds image full was zero (suc other) here long within = other_holds image old.head 0 (suc other) old.first old.second lines here (λ e. omega arith) long (was (suc other) within)
+    holds image full was (suc side) zero here long within = other_holds image old.head (suc side) 0 old.second old.first lines here (λ e. omega arith) long (was 0 within)
+    holds image full was (suc side) (suc other) here long within =
+        let few = sides_few old.head.kind (suc side) here in
+        let low = sides_few old.head.kind (suc other) within in
+        let same : suc side ≡ suc other = omega arith in
+        subst (λ (n : ℕ). HoldsSide old.head n (stored_side old.second lines) (contents image (stored_ops old.head (suc side) old.second lines))) same (stored_holds image old.head (suc side) old.second lines full sound.valid here long (was (suc side) here))

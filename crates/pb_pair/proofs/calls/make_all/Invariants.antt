@@ -1,6 +1,0 @@
-use Rattle.std.proofs.Common.{take}
-use Rattle.pb_pair.specs.Calls.{Does}
-use Rattle.pb_pair.proofs.calls.make_all.Given as goal
-
-abbrev pub invariant-loop-place : goal.invariant-loop-place
-invariant-loop-place g l = Does (take l.place l.ops) (g.P.Pmem.seen l.fn.device) (g.P.Pmem.seen l.device)

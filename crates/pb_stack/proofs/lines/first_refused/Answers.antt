@@ -1,8 +1,0 @@
-use Rattle.std.proofs.Common.{below_more, rules}
-use Rattle.pb_object.specs.ItemLines.{IsStackPlace}
-use Rattle.pb_stack.proofs.lines.first_refused.Goals as goal
-
-pub loop-place-preserved : goal.loop-place-preserved
-loop-place-preserved c =
-    let here : IsStackPlace c.args.from.now c.loop-place.place = search rules in
-    below_more (IsStackPlace c.args.from.now) _ c.loop-place.invariant here
