@@ -1,0 +1,27 @@
+use Rattle.std.proofs.Common.{◌≡◌, ◌++◌, codes, count_by, length, ap, subst}
+use Rattle.std.proofs.lemmas.Result.{on_ok_weaker, on_err_weaker}
+use Rattle.std.specs.Io.KnownBytes.{Appends}
+use Rattle.pb_object.specs.Map.{register_at}
+use Rattle.pb_io.specs.SinkBytes.{AppendsSome}
+use Rattle.pb_report.specs.Pieces.{joined}
+use Rattle.pb_report.specs.ReportText.{region_text, report_text, state_text, is_written, register_line}
+use Rattle.pb_report.proofs.ReportLemmas.{report_is}
+use Rattle.pb_report.proofs.report.write_map.Goals as goal
+
+pub returns-clause-ok : goal.returns-clause-ok
+returns-clause-ok g c =
+    let known = g.K.Sink.bytes in
+    let s = g.R.Region.standing c.args.region.now in
+    let lines = joined (λ key. register_line key (register_at c.args.map.now key)) (length c.args.map.now) in
+    let same : region_text s ++ (c.count_line-count.result.bytes ++ lines) ≡ report_text s =
+    report_is s (codes "registers ") c.count_line-count.result.bytes lines c.written_count.result (count_by is_written c.args.map.now) (ap state_text c.requires) c.count_line-count.ensures (c.written_count.ensures) in
+    on_ok_weaker c.write_report.result (subst (Appends (known c.args.sink.now) (known c.write_report.new.sink)) same) c.write_report.ensures.ok
+
+pub returns-clause-err : goal.returns-clause-err
+returns-clause-err g c =
+    let known = g.K.Sink.bytes in
+    let s = g.R.Region.standing c.args.region.now in
+    let lines = joined (λ key. register_line key (register_at c.args.map.now key)) (length c.args.map.now) in
+    let same : region_text s ++ (c.count_line-count.result.bytes ++ lines) ≡ report_text s =
+    report_is s (codes "registers ") c.count_line-count.result.bytes lines c.written_count.result (count_by is_written c.args.map.now) (ap state_text c.requires) c.count_line-count.ensures (c.written_count.ensures) in
+    on_err_weaker c.write_report.result (subst (AppendsSome (known c.args.sink.now) (known c.write_report.new.sink)) same) c.write_report.ensures.err

@@ -1,0 +1,26 @@
+use Rattle.std.proofs.Common.{◌≡◌, ◌++◌, codes, ◌+◌, slice_index, length, ap, subst, rules}
+use Rattle.std.proofs.lemmas.Result.{on_ok_weaker, on_err_weaker}
+use Rattle.std.specs.Io.KnownBytes.{Appends}
+use Rattle.pb_io.specs.SinkBytes.{AppendsSome}
+use Rattle.pb_report.specs.Pieces.{joined}
+use Rattle.pb_report.specs.ReportText.{region_text, report_text, state_text, waiting_line}
+use Rattle.pb_report.proofs.ReportLemmas.{report_is}
+use Rattle.pb_report.proofs.report.write_queue.Goals as goal
+
+pub returns-clause-ok : goal.returns-clause-ok
+returns-clause-ok g c =
+    let known = g.K.Sink.bytes in
+    let s = g.Q.Region.standing c.args.queue.now in
+    let lines = (let waiting = g.Q.Positions.waiting c.args.queue.now in joined (λ place. waiting_line (slice_index waiting.items place) (waiting.taken + place)) (length waiting.items)) in
+    let same : region_text s ++ (c.count_line-count.result.bytes ++ lines) ≡ report_text s =
+    report_is s (codes "items ") c.count_line-count.result.bytes lines _ (length (g.Q.Positions.waiting c.args.queue.now).items) (ap state_text c.requires) c.count_line-count.ensures (search rules) in
+    on_ok_weaker c.write_report.result (subst (Appends (known c.args.sink.now) (known c.write_report.new.sink)) same) c.write_report.ensures.ok
+
+pub returns-clause-err : goal.returns-clause-err
+returns-clause-err g c =
+    let known = g.K.Sink.bytes in
+    let s = g.Q.Region.standing c.args.queue.now in
+    let lines = (let waiting = g.Q.Positions.waiting c.args.queue.now in joined (λ place. waiting_line (slice_index waiting.items place) (waiting.taken + place)) (length waiting.items)) in
+    let same : region_text s ++ (c.count_line-count.result.bytes ++ lines) ≡ report_text s =
+    report_is s (codes "items ") c.count_line-count.result.bytes lines _ (length (g.Q.Positions.waiting c.args.queue.now).items) (ap state_text c.requires) c.count_line-count.ensures (search rules) in
+    on_err_weaker c.write_report.result (subst (AppendsSome (known c.args.sink.now) (known c.write_report.new.sink)) same) c.write_report.ensures.err

@@ -1,0 +1,97 @@
+-- What becomes of a script's requests: the outcome of each, by what was kept of its client and by the history of the run.
+use Rattle.std.specs.Prelude.{◌≡◌, ℕ, ◌+◌, ◌<◌, Bool, List, [], ◌∷◌, Option, Some, None, if◌then◌else◌, ◌==◌, ◌&&◌, nat_le, find, filter, length, Contains, slice_index_or}
+use Rattle.std.specs.List.{zip, All}
+use Rattle.pb_object.specs.declared.request.Ask.{Ask}
+use Rattle.pb_object.specs.declared.request.Op.{Op}
+use Rattle.pb_object.specs.declared.request.Reply.{Reply}
+use Rattle.pb_object.specs.declared.request.Kept.{Kept as KeptRequest}
+use Rattle.pb_object.specs.History.{Entry, Round, History, kept_by}
+use Rattle.pb_object.specs.Standing.{Standing, keep, kept_list_of, newest}
+use Rattle.pb_report.specs.declared.outcome.Outcome.{Outcome}
+use Rattle.pb_report.specs.declared.outcome.Outcome.TheVariants.{New, Kept, Old, Gap, Changed, Doubt, Left}
+
+abbrev pub is_same_op : Op → Op → Bool
+is_same_op first second = first.code == second.code && first.a == second.a && first.b == second.b && first.c == second.c
+
+-- the one of these kept requests that has this number, if there is one
+abbrev pub kept_with : ℕ → List KeptRequest → Option KeptRequest
+kept_with number kept = find (λ one. one.number == number) kept
+
+-- a request whose number is kept gets the kept reply, if it asks for the same operation. An earlier number that isn't kept is old,
+-- and one after the next leaves a gap. Nothing is said of the next request here
+abbrev pub outcome_by : Option KeptRequest → ℕ → Ask → Option Outcome
+outcome_by (Some one) last ask = Some (if is_same_op one.op ask.op then Kept one.reply else Changed)
+outcome_by None last ask = if nat_le ask.number last then Some Old else (if ask.number == last + 1 then None else Some Gap)
+
+-- the outcome of a request that the kept ones of its client decide; none for the next request
+abbrev pub decided_outcome : List KeptRequest → Ask → Option Outcome
+decided_outcome kept ask = outcome_by (kept_with ask.number kept) (newest kept).number ask
+
+-- a request's entry in a history, with this reply
+abbrev pub entry_of : Ask → Reply → Entry
+entry_of ask reply = record { client = ask.client; number = ask.number; op = ask.op; reply = reply }
+
+-- the entry stands in a round of the history
+pub record IsRecorded (history : History) (entry : Entry) : Type 0 where
+  pub round : Round
+  pub told : Contains history round
+  pub member : Contains round.entries entry
+
+-- lines that aren't tried
+abbrev pub AreLeft : List (Ask × Outcome) → Type 0
+AreLeft lines = All (λ line. line.1 ≡ Left) lines
+
+-- after a gap or another operation under a kept number, a client's further lines are left; after an old or kept one they go on
+abbrev pub GoesOn : Outcome → Type 0 → Type 0 → Type 0
+GoesOn Gap on left = left
+GoesOn Changed on left = left
+GoesOn _ on left = on
+
+-- the next request is new, with the reply of its entry in the history, which is kept then; or it is in doubt, and further lines are left
+abbrev pub IsTried : History → List KeptRequest → Ask → Outcome → (List KeptRequest → Type 0) → Type 0 → Type 0
+IsTried history kept ask (New reply) on left = IsRecorded history (entry_of ask reply) × on (keep (kept_by (entry_of ask reply)) kept)
+IsTried history kept ask Doubt on left = left
+IsTried history kept ask _ on left = ⊥
+
+-- a line: its outcome is the decided one, if one is decided; else the request is tried. `on` says of the client's further lines that they
+-- go on from these kept requests, and `left` that they are left
+abbrev pub IsLine : Option Outcome → History → List KeptRequest → Ask → Outcome → (List KeptRequest → Type 0) → Type 0 → Type 0
+IsLine (Some decided) history kept ask outcome on left = (outcome ≡ decided) × GoesOn decided (on kept) left
+IsLine None history kept ask outcome on left = IsTried history kept ask outcome on left
+
+-- the lines of one client, in order, where these requests of it are kept at first
+unfoldable pub AreLines : History → List KeptRequest → List (Ask × Outcome) → Type 0
+AreLines history kept [] = Unit {0}
+AreLines history kept (line ∷ lines) =
+    IsLine (decided_outcome kept line.0) history kept line.0 line.1 (λ next. AreLines history next lines) (AreLeft lines)
+
+-- the lines of one client
+abbrev pub lines_of : ℕ → List (Ask × Outcome) → List (Ask × Outcome)
+lines_of client lines = filter (λ line. line.0.client == client) lines
+
+abbrev pub IsNewOrDoubt : Outcome → Type 0
+IsNewOrDoubt (New reply) = Unit {0}
+IsNewOrDoubt Doubt = Unit {0}
+IsNewOrDoubt _ = ⊥
+
+-- the entry belongs to a line that is new or in doubt
+pub record IsTriedLine (lines : List (Ask × Outcome)) (entry : Entry) : Type 0 where
+  pub ask : Ask
+  pub outcome : Outcome
+  pub line : Contains lines (ask, outcome)
+  pub tried : IsNewOrDoubt outcome
+  pub client : ask.client ≡ entry.client
+  pub number : ask.number ≡ entry.number
+  pub op : ask.op ≡ entry.op
+
+-- the outcomes of a script's requests, run from the standing s with this history
+pub record Outcomes (s : Standing) (history : History) (asks : List Ask) (outcomes : List Outcome) : Type 0 where
+  pub same_length : length outcomes ≡ length asks
+  pub each_client : (client : ℕ) → AreLines history (kept_list_of s client) (lines_of client (zip asks outcomes))
+  pub each_entry : (entry : Entry) → IsRecorded history entry → IsTriedLine (zip asks outcomes) entry
+
+-- each new line's entry stands in a round that is sealed against a crash; which rounds are, by their places, is `IsSealed`
+abbrev pub AreNewSealed : (ℕ → Type 0) → History → List Ask → List Outcome → Type 0
+AreNewSealed IsSealed history asks outcomes =
+    (ask : Ask) (reply : Reply) → Contains (zip asks outcomes) (ask, New reply)
+    → (place : ℕ) × (place < length history) × IsSealed place × Contains (slice_index_or history place (record { side = 0; entries = [] })).entries (entry_of ask reply)

@@ -1,0 +1,14 @@
+-- Text that is kept back and leaves in pieces, and text made of lines.
+use Rattle.std.specs.Prelude.{◌≡◌, ℕ, zero, suc, List, [], Option, ◌++◌}
+use Rattle.std.specs.Io.KnownBytes.{Appends}
+
+-- what left, and what is pending now, is what was pending and the text
+pub record Passes (old new : Option (List ℕ)) (before after text : List ℕ) : Type 0 where
+  pub gone : List ℕ
+  pub written : Appends old new gone
+  pub whole : gone ++ after ≡ before ++ text
+
+-- the first so many of these lines, one after the other
+unfoldable pub joined : (ℕ → List ℕ) → ℕ → List ℕ
+joined line zero = []
+joined line (suc count) = joined line count ++ line count
