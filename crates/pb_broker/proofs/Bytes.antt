@@ -1,9 +1,9 @@
 -- Bytes that are read or written in several calls.
-use Rattle.std.proofs.Common.{◌≡◌, ℕ, ◌+◌, ◌≤◌, List, ◌++◌, Option, length, take, drop, sym, subst, ap, ◌∙◌}
+use Rattle.std.proofs.Common.{◌≡◌, ℕ, ◌+◌, ◌≤◌, List, ◌++◌, Option, length, take, drop, sym, subst, ap, ◌∙◌, arith}
 use Rattle.std.proofs.lemmas.List.{take-append-le, length-take-le}
 use Rattle.std.proofs.Math.Seq.{take-add, take-append-add}
-use Rattle.std.specs.Io.KnownBytes.{Appends, Consumes}
-use Rattle.std.proofs.KnownBytes.{Appends-trans, Consumes-trans}
+use Rattle.std.specs.Io.KnownBytes.{Appends, Consumes, Keeps}
+use Rattle.std.proofs.KnownBytes.{Appends-trans, Consumes-trans, Consumes-kept}
 
 -- the first bytes of a text, and then some of the rest, are first bytes of it
 pub appends_more : (a b c : Option (List ℕ)) (text rest : List ℕ) (sent more : ℕ) → rest ≡ drop sent text → Appends a b (take sent text) → Appends b c (take more rest) → Appends a c (take (sent + more) text)
@@ -18,3 +18,7 @@ consumes_more a b c old new rest len count within fits first second =
     ap (λ n. take (n + count) (take len old ++ (new ++ rest))) (sym prefix) ∙ take-append-add (take len old) (new ++ rest) count
     ∙ ap (λ l. take len old ++ l) (take-append-le count new rest fits) in
     subst (Consumes a c) (sym same) (Consumes-trans a b c _ _ first second)
+
+-- a read that failed takes nothing
+pub taken_before : (a b c : Option (List ℕ)) (old : List ℕ) (len most : ℕ) → len ≤ length old → length old ≡ most → Consumes a b (take len old) → Keeps b c → (front : List ℕ) × (length front ≤ most) × Consumes a c front
+taken_before a b c old len most within same taken kept = (take len old, omega (arith, length-take-le len old within, within, same), Consumes-kept a b c (take len old) taken kept)

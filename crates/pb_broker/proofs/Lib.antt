@@ -1,18 +1,11 @@
-mod After
-mod Bytes
-mod FilledLines
-mod FormattedRegion
-mod Histories
-mod LastPut
-mod Lists
-mod OneScript
-mod Operations
-mod PieceLemmas
-mod Plain
-mod PlainLines
-mod RegionRecords
-mod RunLemmas
-mod ServeLemmas
-mod ServedRegion
-mod ToldLines
-mod TopLemmas
+pub mod Answered
+pub mod Bytes
+pub mod Complete
+pub mod Endings
+pub mod Exact
+pub mod LastPut
+pub mod Logged
+pub mod Making
+pub mod NotOpened
+pub mod Printing
+pub mod Ran

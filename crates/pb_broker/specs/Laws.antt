@@ -1,21 +1,117 @@
--- What holds of all plain scripts, and of the map that they are served by.
-use Rattle.std.specs.Prelude.{◌≡◌, ℕ, ◌+◌, ◌≤◌, List, length}
+-- Laws of the program's theorem.
+use Rattle.std.specs.Prelude.{◌≡◌, ◌⊎◌, ℕ, ◌+◌, ◌≤◌, List, Option, Some, None, length, ◌<◌}
+use Rattle.pb_pmem.specs.declared.line.Line.{Line}
+use Rattle.pb_pmem.specs.Count.{Rose}
+use Rattle.pb_pmem.specs.Device.{Device}
 use Rattle.pb_object.specs.declared.codes.Answer.TheVariants.{Is}
+use Rattle.pb_object.specs.declared.kind.Kind.{Kind}
 use Rattle.pb_object.specs.declared.request.Ask.{Ask}
 use Rattle.pb_object.specs.declared.request.Op.{Op}
 use Rattle.pb_object.specs.Laws.{after_operations}
 use Rattle.pb_object.specs.Map.{Register, register_at}
 use Rattle.pb_object.specs.Object.{Registers, next_state, reply_of}
 use Rattle.pb_object.specs.Request.{reply}
+use Rattle.pb_object.specs.Standing.{Standing}
+use Rattle.pb_layout.specs.Damage.{HasRegion, IsDamagedAt}
+use Rattle.pb_layout.specs.Recovered.{Represents}
+use Rattle.pb_script.specs.declared.command.Command.{Command}
+use Rattle.pb_script.specs.declared.command.Command.TheVariants.{Fresh, Run, Report, Replay, Drill}
 use Rattle.pb_broker.specs.declared.source.TheConstants.{SOURCE_LIMIT}
-use Rattle.pb_broker.specs.Script.{IsScript, IsRefused}
+use Rattle.pb_broker.specs.declared.status.Status.{Status}
+use Rattle.pb_broker.specs.declared.status.Status.TheVariants.{Done, OutOfMemory, Misnumbered}
+use Rattle.pb_broker.specs.declared.stop.Stop.{Stop}
+use Rattle.pb_broker.specs.declared.stop.Stop.TheVariants.{Usage, Long, Many, Line as BadLine, Taken, NoRegion, Damaged}
+use Rattle.pb_broker.specs.Call.{Call, Output, Says}
+use Rattle.pb_broker.specs.Comes.{HasTooMany, HasFew, HasBadLine, IsScriptOf}
+use Rattle.pb_broker.specs.Reading.{Reading}
+use Rattle.pb_broker.specs.Texts.{stop_text, stop_status}
 
--- a source that isn't too long is the script of one list of requests, or it is refused at one line, and never both.
--- So what the plain form of requests is read as are these requests
-pub record ScriptsAgree : Type 0 where
-  pub one : (bytes : List ℕ) (a b : List Ask) → length bytes ≤ SOURCE_LIMIT → IsScript bytes a → IsScript bytes b → a ≡ b
-  pub whole : (bytes : List ℕ) (asks : List Ask) (line : ℕ) → length bytes ≤ SOURCE_LIMIT → IsScript bytes asks → ¬ IsRefused line bytes
-  pub first : (bytes : List ℕ) (m n : ℕ) → length bytes ≤ SOURCE_LIMIT → IsRefused m bytes → IsRefused n bytes → m ≡ n
+-- Completeness
+
+-- the source tells a script of this kind for so many clients
+pub record TellsScript (kind : Kind) (clients : ℕ) (read : Reading) : Type 0 where
+  pub bytes : List ℕ
+  pub told : read.source ≡ Some bytes
+  pub few : length bytes ≤ SOURCE_LIMIT
+  pub asks : List Ask
+  pub script : IsScriptOf kind clients asks bytes
+
+-- the device tells lines that are no region
+pub record TellsNone (device : Device) : Type 0 where
+  pub image : List Line
+  pub told : device.now ≡ Some image
+  pub none : ¬ HasRegion image
+
+-- .. or lines that represent a standing
+pub record TellsStanding (s : Standing) (device : Device) : Type 0 where
+  pub image : List Line
+  pub told : device.now ≡ Some image
+  pub stands : Represents image s
+
+-- the words are a command, and source and device are as it wants them
+abbrev pub IsWellAsked : Option Command → Call → Type 0
+IsWellAsked None call = ⊥
+IsWellAsked (Some (Fresh kind clients size)) call = TellsScript kind clients call.read × TellsNone call.before
+IsWellAsked (Some Run) call = (s : Standing) × TellsStanding s call.before × TellsScript s.kind s.clients call.read
+IsWellAsked (Some Report) call = (s : Standing) × TellsStanding s call.before
+IsWellAsked (Some (Replay kind clients size)) call = ⊥
+IsWellAsked (Some (Drill seed clients count)) call = ⊥
+
+-- no call of source, device or sink failed
+pub record IsFaultless (call : Call) (out : Output) : Type 0 where
+  pub reads : ¬ Rose call.read.faults_before call.read.faults
+  pub device : ¬ Rose call.before.faults call.after.faults
+  pub writes : ¬ Rose out.faults_before out.faults
+
+-- all was done, or all but what clients asked for under wrong numbers; or memory ran out
+abbrev pub Succeeds : Status → Type 0
+Succeeds status = (status ≡ Done) ⊎ ((status ≡ Misnumbered) ⊎ (status ≡ OutOfMemory))
+
+-- Exactness
+
+-- the source tells bytes of which this holds
+pub record TellsBytes (Holds : List ℕ → Type 0) (read : Reading) : Type 0 where
+  pub bytes : List ℕ
+  pub told : read.source ≡ Some bytes
+  pub holds : Holds bytes
+
+abbrev pub IsTooLong : List ℕ → Type 0
+IsTooLong bytes = SOURCE_LIMIT < length bytes
+
+-- .. which are not too many, and of which this holds
+abbrev pub TellsSource : (List ℕ → Type 0) → Reading → Type 0
+TellsSource Holds read = TellsBytes (λ bytes. (length bytes ≤ SOURCE_LIMIT) × Holds bytes) read
+
+-- the device tells lines of which this holds
+pub record TellsLines (Holds : List Line → Type 0) (device : Device) : Type 0 where
+  pub image : List Line
+  pub told : device.now ≡ Some image
+  pub holds : Holds image
+
+-- why a command stops, by what source and device tell. Want of memory and faults have no such cause
+abbrev pub HasCause : Option Command → Call → Stop → Type 0
+HasCause None call Usage = Unit {0}
+HasCause (Some (Fresh kind clients size)) call Long = TellsBytes IsTooLong call.read
+HasCause (Some (Fresh kind clients size)) call Many = TellsSource HasTooMany call.read
+HasCause (Some (Fresh kind clients size)) call (BadLine number) = TellsSource (HasBadLine kind clients number) call.read
+HasCause (Some (Fresh kind clients size)) call Taken = TellsScript kind clients call.read × TellsLines HasRegion call.before
+HasCause (Some Run) call Long = TellsBytes IsTooLong call.read
+HasCause (Some Run) call Many = TellsSource HasTooMany call.read
+HasCause (Some Run) call NoRegion = TellsSource HasFew call.read × TellsLines (λ image. ¬ HasRegion image) call.before
+HasCause (Some Run) call (Damaged line) = TellsSource HasFew call.read × TellsLines (λ image. IsDamagedAt image line) call.before
+HasCause (Some Run) call (BadLine number) =
+    (s : Standing) × TellsStanding s call.before × TellsSource (HasBadLine s.kind s.clients number) call.read
+HasCause (Some Report) call NoRegion = TellsLines (λ image. ¬ HasRegion image) call.before
+HasCause (Some Report) call (Damaged line) = TellsLines (λ image. IsDamagedAt image line) call.before
+HasCause (Some (Replay kind clients size)) call Usage = Unit {0}
+HasCause (Some (Drill seed clients count)) call Usage = Unit {0}
+HasCause _ call _ = ⊥
+
+-- the call says so, or memory ran out
+abbrev pub SaysStop : Output → Stop → Status → Type 0
+SaysStop out stop status = Says out (stop_text stop) (stop_status stop) status ⊎ (status ≡ OutOfMemory)
+
+-- Maps
 
 -- a get after a put, and after operations on other registers, answers what was put, and the version that the put gave
 abbrev pub GetAnswersThePut : List Register → Op → List Op → Op → Type 0

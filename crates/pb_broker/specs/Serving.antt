@@ -1,128 +1,143 @@
--- Formatting and serving a region, and what a crash leaves of it.
-use Rattle.std.specs.Prelude.{◌≡◌, ◌⊎◌, ℕ, List, [], ◌∷◌, ◌++◌, Option, Some, None, IfSome}
+-- What the parts of a call come to, before any of it is printed.
+use Rattle.std.specs.Prelude.{◌≡◌, ◌⊎◌, ℕ, ◌≤◌, List, Option, length}
+use Rattle.std.specs.Io.KnownBytes.{Consumes, IsAtEnd}
+use Rattle.pb_pmem.specs.declared.device.DeviceFault.{DeviceFault as Fault}
 use Rattle.pb_pmem.specs.Count.{Rose}
-use Rattle.pb_pmem.specs.Device.{Device, Tale}
-use Rattle.pb_object.specs.declared.kind.Kind.TheVariants.{Map}
+use Rattle.pb_pmem.specs.Device.{Device}
+use Rattle.pb_object.specs.declared.kind.Kind.{Kind}
 use Rattle.pb_object.specs.declared.request.Ask.{Ask}
-use Rattle.pb_object.specs.declared.request.Reply.{Reply}
-use Rattle.pb_object.specs.History.{History, IsLegalRound, IsLegal, after_round, state_after}
-use Rattle.pb_object.specs.Object.{reply_of}
-use Rattle.pb_object.specs.Standing.{Standing, empty_standing}
-use Rattle.pb_layout.specs.Damage.{HasRegion}
-use Rattle.pb_layout.specs.LogHistory.{LoggedRound, rounds_in, AreSealed}
-use Rattle.pb_layout.specs.Recovered.{Represents}
-use Rattle.pb_layout.specs.Exits.{sealed_round}
-use Rattle.pb_pair.specs.declared.why.Why.{Why}
-use Rattle.pb_pair.specs.declared.why.Why.TheVariants.{Memory, Device as DeviceWhy, Taken, NoRegion, Damaged}
-use Rattle.pb_pair.specs.Format.{HadNoRegion}
-use Rattle.pb_layout.specs.ToldExits.{contents_of, IsReadyWith, IsCoveredExit, IsSealedAfter, IsInDoubt, HasPublished}
-use Rattle.pb_broker.specs.History.{served, run_of}
-use Rattle.pb_broker.specs.Region.{RegionView, map_header, standing_of, last_number, IsSound}
+use Rattle.pb_object.specs.Standing.{Standing}
+use Rattle.pb_layout.specs.declared.header.Header.{Header}
+use Rattle.pb_pair.specs.declared.why.Why.TheVariants.{Device as DeviceWhy}
+use Rattle.pb_engine.specs.Opening.{IsFresh, IsFreshRefusal, IsAdopted}
+use Rattle.pb_engine.specs.View.{EngineView}
+use Rattle.pb_report.specs.declared.outcome.Outcome.{Outcome}
+use Rattle.pb_run.specs.Answer.{IsSettled, StaysUnsure}
+use Rattle.pb_run.specs.Run.{HasRun}
+use Rattle.pb_broker.specs.declared.source.TheConstants.{SOURCE_LIMIT}
+use Rattle.pb_broker.specs.declared.stop.Stop.{Stop}
+use Rattle.pb_broker.specs.declared.stop.Stop.TheVariants.{Memory, ReadFault, Long, Many, Line, DeviceFault, Taken, NoRegion, Damaged}
+use Rattle.pb_broker.specs.declared.status.Status.{Status}
+use Rattle.pb_broker.specs.Call.{Output, IsSaid}
+use Rattle.pb_broker.specs.Comes.{HasTooMany, HasFew, IsScriptOf, HasBadLine, TellsRegion, TellsNoRegion, TellsDamage}
+use Rattle.pb_broker.specs.Ending.{Stopped, Reported}
+use Rattle.pb_broker.specs.Texts.{ending_text, ending_status}
+use Rattle.pb_broker.specs.Reading.{Reading, IsSound, IsStopped, HasFailed, IsWhole, IsLong}
 
--- the standing of a fresh map of one client
-abbrev pub fresh_map : ℕ → Standing
-fresh_map size = empty_standing Map 1 size
+-- The source
 
--- the device tells lines that represent s
-abbrev pub DeviceRepresents : Standing → Device → Type 0
-DeviceRepresents s device = IfSome device.now (λ lines. Represents lines s)
+-- all of it was read, and it isn't too long
+pub record ReadsAll (read : Reading) (bytes : List ℕ) : Type 0 where
+  pub consumes : Consumes read.source read.left bytes
+  pub end : IsAtEnd read.left
+  pub few : length bytes ≤ SOURCE_LIMIT
+  pub sound : IsSound read
 
--- where the log is told, and the device is ready with these
-abbrev pub WhereReadyWith : List (Option Standing) → Device → (Tale → Type 0) → Type 0
-WhereReadyWith members device Shown = IfSome device.told (λ tale. IsReadyWith members tale → Shown tale)
+-- some of the first bytes were taken, so many at most
+abbrev pub HasTaken : Option (List ℕ) → Option (List ℕ) → ℕ → Type 0
+HasTaken source left most = (front : List ℕ) × (length front ≤ most) × Consumes source left front
 
--- a device was formatted, which had no region
-pub record IsFresh (size : ℕ) (old : Device) (new : RegionView) : Type 0 where
-  pub sound : IsSound new
-  pub fresh : standing_of new ≡ fresh_map size
-  pub number : last_number new ≡ 0
-  pub faults : new.pair.device.faults ≡ old.faults
-  pub no_region : IfSome old.now (λ lines. ¬ HasRegion lines)
-  pub holds : DeviceRepresents (fresh_map size) new.pair.device
-  pub safe : WhereReadyWith (None ∷ []) old (λ tale. IsCoveredExit tale new.pair.device (fresh_map size) [] (Some (fresh_map size) ∷ []))
+-- why reading stops
+abbrev pub StopsReading : Reading → Stop → Type 0
+StopsReading read Memory = IsStopped read
+StopsReading read ReadFault = HasFailed read
+StopsReading read Long = IsLong read
+StopsReading read _ = ⊥
 
--- a call of the device failed while it was formatted
-pub record FailsToFormat (size : ℕ) (old new : Device) : Type 0 where
-  pub rose : Rose old.faults new.faults
-  pub kept : HadNoRegion old new
-  pub safe : WhereReadyWith (None ∷ []) old (λ tale. IsCoveredExit tale new (fresh_map size) [] (None ∷ []) ⊎ HasPublished tale new (map_header size))
+-- .. and it has no more request lines than it may
+pub record ReadsFew (read : Reading) (bytes : List ℕ) : Type 0 where
+  pub whole : ReadsAll read bytes
+  pub short : HasFew bytes
 
--- why a device wasn't formatted, and what became of it
-abbrev pub IsRefusal : ℕ → Device → Device → Why → Type 0
-IsRefusal size old new Memory = new ≡ old
-IsRefusal size old new (DeviceWhy fault) = FailsToFormat size old new
-IsRefusal size old new Taken = (new ≡ old) × IfSome old.now HasRegion
-IsRefusal size old new NoRegion = ⊥
-IsRefusal size old new (Damaged line) = ⊥
+-- why reading or counting stops
+abbrev pub StopsReadingFew : Reading → Stop → Type 0
+StopsReadingFew read Memory = IsStopped read
+StopsReadingFew read ReadFault = HasFailed read
+StopsReadingFew read Long = IsLong read
+StopsReadingFew read Many = IsWhole HasTooMany read
+StopsReadingFew read _ = ⊥
 
--- a request was served in a round of its own, and the round is sealed
-pub record IsServed (ask : Ask) (reply : Reply) (old new : RegionView) : Type 0 where
-  pub sound : IsSound new
-  pub number : last_number new ≡ ask.number
-  pub reply_is : reply ≡ reply_of (standing_of old).state ask.op
-  pub legal : IsLegalRound (standing_of old) (served (standing_of old) ask)
-  pub after : standing_of new ≡ after_round (standing_of old) (served (standing_of old) ask)
-  pub faults : new.pair.device.faults ≡ old.pair.device.faults
-  pub holds : DeviceRepresents (standing_of old) old.pair.device → DeviceRepresents (standing_of new) new.pair.device
-  pub safe : WhereReadyWith (Some (standing_of old) ∷ []) old.pair.device (λ tale. IsCoveredExit tale new.pair.device (standing_of old) (sealed_round (served (standing_of old) ask) ∷ []) (Some (standing_of new) ∷ []))
+-- why bytes are no script
+abbrev pub IsNoScript : Kind → ℕ → List ℕ → Stop → Type 0
+IsNoScript kind clients bytes Memory = Unit {0}
+IsNoScript kind clients bytes Many = HasTooMany bytes
+IsNoScript kind clients bytes (Line number) = HasBadLine kind clients number bytes
+IsNoScript kind clients bytes _ = ⊥
 
--- a call of the device failed while a request was served: the round is not there, or in doubt
-pub record FailsToServe (ask : Ask) (old new : RegionView) : Type 0 where
-  pub rose : Rose old.pair.device.faults new.pair.device.faults
-  pub legal : IsLegalRound (standing_of old) (served (standing_of old) ask)
-  pub safe : WhereReadyWith (Some (standing_of old) ∷ []) old.pair.device (λ tale. IsCoveredExit tale new.pair.device (standing_of old) [] (Some (standing_of old) ∷ []) ⊎ IsInDoubt tale new.pair.device (standing_of old) (served (standing_of old) ask))
+-- why a source gives no requests
+abbrev pub StopsPreparing : Kind → ℕ → Reading → Stop → Type 0
+StopsPreparing kind clients read Memory = IsStopped read
+StopsPreparing kind clients read ReadFault = HasFailed read
+StopsPreparing kind clients read Long = IsLong read
+StopsPreparing kind clients read Many = IsWhole HasTooMany read
+StopsPreparing kind clients read (Line number) = IsWhole (HasBadLine kind clients number) read
+StopsPreparing kind clients read _ = ⊥
 
--- the calls stopped at a failing one: the log has a legal history, and the device is ready
-pub record IsStoppedAfter (tale : Tale) (new : Device) (s : Standing) : Type 0 where
-  pub history : List LoggedRound
-  pub members : List (Option Standing)
-  pub left : IsCoveredExit tale new s history members
-  pub legal : IsLegal s (rounds_in history)
+-- A new region
 
--- the state after the first requests
-abbrev pub after_first : Standing → List Ask → Standing
-after_first s prefix = state_after s (run_of s prefix)
+-- an engine was made on the device, and the requests were run on it
+pub record ServesNew (head : Header) (before after : Device) (asks : List Ask) (list : List Outcome) : Type 0 where
+  pub start : EngineView
+  pub fresh : IsFresh head before start
+  pub now : EngineView
+  pub run : HasRun start asks now list
+  pub device : after ≡ now.device
 
--- the first requests were served: the log tells their run, and the device may be found with the state after it alone
-abbrev pub AreServedTo : Standing → List Ask → History → List (Option Standing) → Type 0
-AreServedTo s prefix told members = (told ≡ run_of s prefix) × (members ≡ Some (after_first s prefix) ∷ [])
+-- the region couldn't be made
+abbrev pub IsNotMade : Header → Device → Device → Stop → Type 0
+IsNotMade head before after Memory = after ≡ before
+IsNotMade head before after DeviceFault = (fault : Fault) × IsFreshRefusal head before after (DeviceWhy fault)
+IsNotMade head before after Taken = TellsRegion before × (after ≡ before)
+IsNotMade head before after _ = ⊥
 
--- and the next one is in doubt: the log tells its round too, or doesn't; the device may be found with the state before it or after it
-pub record IsNextInDoubt (s : Standing) (prefix rest : List Ask) (told : History) (members : List (Option Standing)) : Type 0 where
-  pub ask : Ask
-  pub more : List Ask
-  pub next : rest ≡ ask ∷ more
-  pub told_is : (told ≡ run_of s prefix) ⊎ (told ≡ run_of s (prefix ++ ask ∷ []))
-  pub members_are : members ≡ Some (after_first s prefix) ∷ Some (after_first s (prefix ++ ask ∷ [])) ∷ []
+-- A region that is there
 
--- one of these, for a prefix of the requests
-pub record AreAround (s : Standing) (asks : List Ask) (told : History) (members : List (Option Standing)) : Type 0 where
-  pub prefix : List Ask
-  pub rest : List Ask
-  pub parts_are : asks ≡ prefix ++ rest
-  pub are : AreServedTo s prefix told members ⊎ IsNextInDoubt s prefix rest told members
+-- an engine that was just opened was settled, and the requests of the source were run on it
+pub record ServesFound (kind : Kind) (found : EngineView) (bytes : List ℕ) (now : EngineView) (asks : List Ask)
+    (list : List Outcome) : Type 0 where
+  pub script : IsScriptOf kind found.standing.clients asks bytes
+  pub start : EngineView
+  pub settled : IsSettled found start
+  pub run : HasRun start asks now list
 
--- what a log tells after a fault, and what the device may be found with: nothing was served, and there is no region, alone or beside the
--- fresh map; or the first requests were served, and the next one may be in doubt
-abbrev pub AreFound : ℕ → List Ask → History → List (Option Standing) → Type 0
-AreFound size asks told members =
-    ((told ≡ []) × ((members ≡ None ∷ []) ⊎ (members ≡ None ∷ Some (fresh_map size) ∷ []))) ⊎ AreAround (fresh_map size) asks told members
+-- why they weren't run
+abbrev pub StopsFound : Kind → EngineView → List ℕ → EngineView → Stop → Type 0
+StopsFound kind found bytes now Memory = now ≡ found
+StopsFound kind found bytes now Many = HasTooMany bytes
+StopsFound kind found bytes now (Line number) = HasBadLine kind found.standing.clients number bytes × (now ≡ found)
+StopsFound kind found bytes now DeviceFault =
+    ((asks : List Ask) × IsScriptOf kind found.standing.clients asks bytes) × StaysUnsure found now
+StopsFound kind found bytes now _ = ⊥
 
--- what a run that stopped leaves on the device: a region that may be found in the states around the request that failed
-pub record IsCaught (tale : Tale) (new : Device) (s : Standing) (asks : List Ask) : Type 0 where
-  pub after : IsStoppedAfter tale new s
-  pub around : AreAround s asks (rounds_in after.history) after.members
-  pub region : IfSome new.told (λ end. HasRegion (contents_of end))
+-- the region of a device was opened, and its engine came to this
+pub record Opens (before after : Device) (Comes : EngineView → EngineView → Type 0) : Type 0 where
+  pub found : EngineView
+  pub adopted : IsAdopted before found
+  pub now : EngineView
+  pub device : after ≡ now.device
+  pub comes : Comes found now
 
--- all requests were served
-pub record AreServed (asks : List Ask) (history : History) (old new : RegionView) : Type 0 where
-  pub legal : IsLegal (standing_of old) history
-  pub after : standing_of new ≡ state_after (standing_of old) history
-  pub faults : new.pair.device.faults ≡ old.pair.device.faults
-  pub holds : DeviceRepresents (standing_of old) old.pair.device → DeviceRepresents (standing_of new) new.pair.device
-  pub safe : WhereReadyWith (Some (standing_of old) ∷ []) old.pair.device (λ tale. IsSealedAfter tale new.pair.device (standing_of old) history)
+abbrev pub ServesOn : List ℕ → Device → Device → List Ask → List Outcome → Type 0
+ServesOn bytes before after asks list =
+    Opens before after (λ found now. ServesFound found.standing.kind found bytes now asks list)
 
--- a call of the device failed meanwhile
-pub record FailsToServeAll (asks : List Ask) (old new : RegionView) : Type 0 where
-  pub rose : Rose old.pair.device.faults new.pair.device.faults
-  pub safe : WhereReadyWith (Some (standing_of old) ∷ []) old.pair.device (λ tale. IsCaught tale new.pair.device (standing_of old) asks)
+-- the region couldn't be opened
+abbrev pub IsNotOpened : Device → Device → Stop → Type 0
+IsNotOpened before after Memory = after ≡ before
+IsNotOpened before after DeviceFault = Rose before.faults after.faults × (after.told ≡ before.told)
+IsNotOpened before after NoRegion = TellsNoRegion before × (after ≡ before)
+IsNotOpened before after (Damaged line) = TellsDamage line before × (after ≡ before)
+IsNotOpened before after _ = ⊥
+
+-- it couldn't be opened, or its requests weren't run
+abbrev pub StopsOn : List ℕ → Device → Device → Stop → Type 0
+StopsOn bytes before after stop =
+    IsNotOpened before after stop ⊎ Opens before after (λ found now. StopsFound found.standing.kind found bytes now stop)
+
+-- The report of a region
+
+-- the report of a standing was printed; or memory ran out, and nothing was
+abbrev pub IsPrinted : Standing → Output → Status → Type 0
+IsPrinted s out status =
+    IsSaid out (ending_text (Reported s)) (ending_status (Reported s)) status
+    ⊎ IsSaid out (ending_text (Stopped Memory)) (ending_status (Stopped Memory)) status

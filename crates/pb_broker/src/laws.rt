@@ -1,17 +1,36 @@
-//! What holds of all plain scripts, and of the map that they are served by, as contracts of functions that do nothing.
-ghost use Rattle.std.specs.Prelude.{◌≡◌, ◌≢◌, ◌<◌, length, Some};
+//! Laws of the program's theorem, and of the map that it serves, as contracts of functions that do nothing.
+ghost use Rattle.std.specs.Prelude.{◌≡◌, ◌≢◌, ◌<◌, ℕ, List, length, Some};
 ghost use Rattle.std.specs.List.{All};
 ghost use Rattle.pb_object.specs.declared.codes.Action.TheVariants.{Get, Put};
 ghost use Rattle.pb_object.specs.declared.request.Op.{Op};
 ghost use Rattle.pb_object.specs.Codes.{action_of};
 ghost use Rattle.pb_object.specs.Map.{last_version, register_at};
-ghost use Rattle.pb_broker.specs.Laws.{ScriptsAgree, GetAnswersThePut};
+ghost use Rattle.pb_script.specs.Command.{command_of};
+ghost use Rattle.pb_broker.specs.declared.status.Status.{Status};
+ghost use Rattle.pb_broker.specs.declared.stop.Stop.{Stop};
+ghost use Rattle.pb_broker.specs.Call.{Call, Output};
+ghost use Rattle.pb_broker.specs.Laws.{IsWellAsked, IsFaultless, Succeeds, HasCause, SaysStop, GetAnswersThePut};
+ghost use Rattle.pb_broker.specs.Top.{IsAnswered};
 
 use pb_object::{Op, Register};
 
-/// A source that isn't too long is the script of one list of requests, or it is refused at one line, and never both.
-pub fn plain_scripts_agree()
-    ensures { ScriptsAgree }
+/// Where the words are a command, source and device are as it wants them, and no call failed, the status is that of a
+/// command that did its work, but for what was asked for under wrong numbers; or memory ran out.
+pub fn what_is_asked_for_is_done()
+    ensures { (words : List (List ℕ)) (call : Call) (out : Output) (status : Status)
+        → IsAnswered words call out status
+        → IsWellAsked (command_of words) call
+        → IsFaultless call out
+        → Succeeds status }
+{}
+
+/// Where source and device tell why a command stops, and no call failed, the call says just that; or memory ran out.
+pub fn each_cause_decides()
+    ensures { (words : List (List ℕ)) (call : Call) (out : Output) (stop : Stop) (status : Status)
+        → IsAnswered words call out status
+        → HasCause (command_of words) call stop
+        → IsFaultless call out
+        → SaysStop out stop status }
 {}
 
 /// A get answers the last put of its register, whatever was done to other registers since then.

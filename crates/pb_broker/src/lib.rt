@@ -1,22 +1,19 @@
-//! The broker: a script of requests in, its outcomes out, over an object on a device.
+//! The broker: a command and a script of requests in, their outcomes out, over an object on a device.
 #![tactic(auto)]
 
+mod command;
+mod fresh;
 pub mod laws;
-mod outcome;
-mod output;
+mod print;
 mod program;
-mod region;
+mod reports;
 mod requests;
 mod run;
-mod script;
-mod serve;
 mod source;
 mod status;
 mod stop;
-mod words;
 
 pub use program::{Done, top};
+pub use reports::report;
 pub use source::SOURCE_LIMIT;
-pub use status::{
-    DEVICE_FAULT, DONE, OUT_OF_MEMORY, READ_FAULT, REFUSED, TAKEN, USAGE, WRITE_FAULT,
-};
+pub use status::Status;

@@ -1,38 +1,49 @@
 //! The call that does all that the program does.
-ghost use Rattle.std.specs.Prelude.{◌≡◌, ◌⊎◌, map, MatchResult};
-ghost use Rattle.std.specs.String.{string_bytes};
-ghost use Rattle.std.specs.Io.KnownBytes.{Keeps};
-ghost use Rattle.pb_pmem.specs.Count.{Rose};
-ghost use Rattle.pb_broker.specs.Run.{Prints};
-ghost use Rattle.pb_broker.specs.Top.{Reading, Call, Output, IsAnswered};
+ghost use Rattle.std.specs.Prelude.{◌≡◌, MatchResult};
+ghost use Rattle.pb_script.specs.Command.{texts};
+ghost use Rattle.pb_report.specs.OutcomeText.{outcomes_text};
+ghost use Rattle.pb_broker.specs.declared.stop.Stop.TheVariants.{Usage};
+ghost use Rattle.pb_broker.specs.Call.{Call, IsSaid, output};
+ghost use Rattle.pb_broker.specs.Reading.{reading};
+ghost use Rattle.pb_broker.specs.Texts.{run_status, stop_status, stop_text};
+ghost use Rattle.pb_broker.specs.Top.{IsAnswered};
 
-use crate::outcome::write_outcomes;
-use crate::output::{send, write_line};
-use crate::requests::Requests;
-use crate::run::{RunResult, run};
-use crate::status::{
-    DEVICE_FAULT, DONE, OUT_OF_MEMORY, READ_FAULT, REFUSED, TAKEN, USAGE, WRITE_FAULT,
-};
-use crate::stop::RunError;
-use pb_io::{Gate, Sink, SinkFault, Source};
+use crate::command::Ran;
+use crate::fresh::fresh;
+use crate::print::{print, print_stop};
+use crate::reports::report;
+use crate::run::run;
+use crate::status::Status;
+use crate::stop::Stop;
+use pb_io::{Gate, Sink, Source};
+use pb_layout::Header;
 use pb_pmem::Pmem;
+use pb_script::{Command, parse_words};
 use std::alloc::Global;
 
 /// How a call of the program ended.
 #[derive(Drop)]
 pub struct Done<P: Drop> {
-    /// The exit status, one of the constants of this crate.
-    pub status: u8,
+    /// How it ended.
+    pub status: Status,
     /// The device that the call was given, as it left it.
     pub device: P,
 }
 
-/// Does what the words say: `fresh map 1 SIZE` formats a device that has no region, as a map for one client, and runs the source's
-/// script. Any other words are no command.
+/// Does what the words say.
 ///
-/// The words are judged first, then the source is read, then its lines are judged, then the device is formatted and the script is run,
-/// and then the outcomes are written. All memory is taken before the device is written to. Each request is durable before the round of the
-/// next one is there: wherever a crash falls, the region is found as it was before a request or after it, or isn't there yet.
+/// - `fresh KIND CLIENTS SIZE` makes a region on a device that has none, and runs the source's script on it.
+/// - `run` opens the device's region, settles it, and runs the source's script on it.
+/// - `report` prints what the device's region holds. It reads no source and writes nothing to the device.
+///
+/// Any other words are no command. The words are judged first, then the source is read and its request lines are counted;
+/// its lines are judged before a region is made, and behind the opening of one. All memory is taken before the device is
+/// written to. Then the script is run, and its outcomes are written.
+///
+/// Each new request is durable before its outcome is written. Where the device tells its log and was ready to be opened,
+/// each image that a crash may leave represents the region after some of the requests, every answered one among them; or,
+/// until the first sync, what it might represent before the call. One of a client's last eight requests that is asked
+/// again under its number is answered again, and none is applied twice.
 pub fn top<S: Source, K: Sink, P: Pmem + Send, G: Gate>(
     alloc: Global,
     words: &[String],
@@ -41,90 +52,59 @@ pub fn top<S: Source, K: Sink, P: Pmem + Send, G: Gate>(
     device: P,
     gate: &G,
 ) -> Done<P>
-    ensures { let read : Reading = record {
-      words = map string_bytes words.now;
-      source = S.rest source.old;
-      left = S.rest source.new;
-      faults_before = S.fault_count source.old;
-      faults = S.fault_count source.new;
+    ensures { let call : Call = record {
+      read = reading (S.rest source.old) (S.rest source.new) (S.fault_count source.old) (S.fault_count source.new);
+      before = P.seen device;
+      after = P.seen result.device;
     } in
-        let call : Call = record { read = read; before = P.seen device; after = P.seen result.device } in
-        let output : Output = record {
-          before = K.bytes sink.old;
-          after = K.bytes sink.new;
-          writes_before = K.fault_count sink.old;
-          writes = K.fault_count sink.new;
-        } in
-        IsAnswered call output result.status }
+        let out = output (K.bytes sink.old) (K.bytes sink.new) (K.fault_count sink.old) (K.fault_count sink.new) in
+        IsAnswered (texts words.now) call out result.status }
 {
-    let RunResult { served, device } = run(alloc, words, source, device, gate);
-    let status = print(sink, &served);
-    Done { status, device }
-}
-
-// Prints what a run came to, and gives its status.
-fn print<K: Sink>(sink: &mut K, outcome: &Result<Requests, RunError>) -> u8
-    ensures { let output : Output = record {
-      before = K.bytes sink.old;
-      after = K.bytes sink.new;
-      writes_before = K.fault_count sink.old;
-      writes = K.fault_count sink.new;
-    } in
-        Prints output outcome.now result }
-{
-    match outcome {
-        Ok(served) => {
-            let written = write_outcomes(sink, &served.asks, &served.replies);
-            status_of(sink, written, DONE)
+    match parse_words(words) {
+        Some(
+            Command::Fresh {
+                kind,
+                clients,
+                size,
+            },
+        ) => {
+            let head = Header {
+                kind,
+                clients,
+                size,
+            };
+            finish(sink, fresh(alloc, &head, source, device, gate))
         }
-        Err(stop) => print_stop(sink, stop),
+        Some(Command::Run) => finish(sink, run(alloc, source, device, gate)),
+        Some(Command::Report) => report(alloc, sink, device),
+        Some(Command::Replay { .. }) => no_command(sink, device),
+        Some(Command::Drill { .. }) => no_command(sink, device),
+        None => no_command(sink, device),
     }
 }
 
-// Prints why a run stopped, where that is printed, and gives its status.
-fn print_stop<K: Sink>(sink: &mut K, stop: &RunError) -> u8
-    ensures { let output : Output = record {
-      before = K.bytes sink.old;
-      after = K.bytes sink.new;
-      writes_before = K.fault_count sink.old;
-      writes = K.fault_count sink.new;
-    } in
-        Prints output (Err stop.now) result }
+/// Prints what a run came to.
+fn finish<K: Sink, P: Pmem>(sink: &mut K, ran: Ran<P>) -> Done<P>
+    ensures said { let out = output (K.bytes sink.old) (K.bytes sink.new) (K.fault_count sink.old) (K.fault_count sink.new) in
+        MatchResult ran.served
+        (λ requests. IsSaid out (outcomes_text requests.asks.items requests.outcomes.items) (run_status requests.outcomes.items) result.status)
+        (λ stop. IsSaid out (stop_text stop) (stop_status stop) result.status) }
+    ensures device { P.seen result.device ≡ P.seen ran.device }
 {
-    match stop {
-        RunError::Memory => OUT_OF_MEMORY,
-        RunError::Usage => {
-            let written = send(sink, b"usage\n");
-            status_of(sink, written, USAGE)
-        }
-        RunError::ReadFault => READ_FAULT,
-        RunError::Long => {
-            let written = send(sink, b"long\n");
-            status_of(sink, written, REFUSED)
-        }
-        RunError::Line(line) => {
-            let written = write_line(sink, *line);
-            status_of(sink, written, REFUSED)
-        }
-        RunError::DeviceFault => DEVICE_FAULT,
-        RunError::Taken => {
-            let written = send(sink, b"taken\n");
-            status_of(sink, written, TAKEN)
-        }
+    let status = print(sink, &ran.served);
+    Done {
+        status,
+        device: ran.device,
     }
 }
 
-// The status after a text: the one that it goes with, where the whole text left.
-fn status_of<K: Sink>(sink: &mut K, written: Result<(), SinkFault>, whole: u8) -> u8
-    ensures bytes { Keeps (K.bytes sink.old) (K.bytes sink.new) }
-    ensures status { MatchResult written
-        (λ _. ((result ≡ whole) × (K.fault_count sink.new ≡ K.fault_count sink.old))
-        ⊎ ((result ≡ WRITE_FAULT) × Rose (K.fault_count sink.old) (K.fault_count sink.new)))
-        (λ _. (result ≡ WRITE_FAULT) × (K.fault_count sink.new ≡ K.fault_count sink.old)) }
+fn no_command<K: Sink, P: Pmem>(sink: &mut K, device: P) -> Done<P>
+    ensures said { let out = output (K.bytes sink.old) (K.bytes sink.new) (K.fault_count sink.old) (K.fault_count sink.new) in
+        IsSaid out (stop_text Usage) (stop_status Usage) result.status }
+    ensures device { P.seen result.device ≡ P.seen device }
 {
-    if written.is_ok() && sink.flush().is_ok() {
-        whole
-    } else {
-        WRITE_FAULT
+    Done {
+        status: print_stop(sink, &Stop::Usage),
+        device,
     }
 }

@@ -1,140 +1,162 @@
-//! A run of the first command, from its words and its source to the replies.
-ghost use Rattle.std.specs.Prelude.{◌≡◌, ◌≤◌, length, map, MatchResult};
-ghost use Rattle.std.specs.String.{string_bytes};
-ghost use Rattle.pb_object.specs.declared.request.TheConstants.{LAST_NUMBER};
-ghost use Rattle.pb_broker.specs.Run.{HasPrepared, StopsBefore, HasRun, StopsRun, Ran, RunStops, IsFormatWhy, stop_for};
-ghost use Rattle.pb_broker.specs.Script.{AreRequests};
-ghost use Rattle.pb_broker.specs.Top.{Reading, Call};
+//! Opening a region, and running a script on it.
+ghost use Rattle.std.specs.Prelude.{◌≡◌, ◌≤◌, IfOk, IfErr, MatchResult, length, None, false};
+ghost use Rattle.pb_object.specs.declared.kind.Kind.TheVariants.{Queue};
+ghost use Rattle.pb_pair.specs.Open.{IsOpened};
+ghost use Rattle.pb_broker.specs.declared.source.TheConstants.{SOURCE_LIMIT};
+ghost use Rattle.pb_broker.specs.Call.{Call};
+ghost use Rattle.pb_broker.specs.Comes.{ServesRun, StopsRun};
+ghost use Rattle.pb_broker.specs.Reading.{reading};
+ghost use Rattle.pb_broker.specs.Serving.{ReadsFew, StopsReadingFew, ServesFound, StopsFound, ServesOn, StopsOn};
 
-use crate::region::Region;
-use crate::requests::Requests;
-use crate::script::plain_asks;
-use crate::serve::serve_all;
+use crate::command::{Ran, refused};
+use crate::requests::{Requests, read_requests, serve};
 use crate::source::read_all;
-use crate::stop::RunError;
-use crate::words::fresh_map_size;
+use crate::stop::Stop;
+use pb_comb::Comb;
+use pb_engine::Engine;
+use pb_heap::MinHeap;
 use pb_io::{Gate, Source};
-use pb_object::Reply;
-use pb_pair::Why;
+use pb_map::RegMap;
+use pb_object::{Kind, Object};
+use pb_pair::Pair;
 use pb_pmem::Pmem;
+use pb_queue::TwinQueue;
+use pb_script::is_short;
+use pb_stack::Stack;
 use std::alloc::Global;
 
-/// What a run came to, and the device that it was given.
-#[derive(Drop)]
-pub struct RunResult<P: Drop> {
-    /// The requests with their replies, or why there are none.
-    pub served: Result<Requests, RunError>,
-    pub device: P,
-}
-
-/// Does what the words say, and gives the requests that were served.
+/// Opens the device's region, settles it, and runs the source's script on it.
+///
+/// Request lines are counted before the device is called, and judged behind the opening. All memory is taken before the
+/// region is settled.
 pub fn run<S: Source, P: Pmem, G: Gate>(
     alloc: Global,
-    words: &[String],
     source: &mut S,
     device: P,
     gate: &G,
-) -> RunResult<P>
-    ensures { let read : Reading = record {
-      words = map string_bytes words.now;
-      source = S.rest source.old;
-      left = S.rest source.new;
-      faults_before = S.fault_count source.old;
-      faults = S.fault_count source.new;
+) -> Ran<P>
+    ensures { let call : Call = record {
+      read = reading (S.rest source.old) (S.rest source.new) (S.fault_count source.old) (S.fault_count source.new);
+      before = P.seen device;
+      after = P.seen result.device;
     } in
-        let call : Call = record { read = read; before = P.seen device; after = P.seen result.device } in
-        MatchResult result.served (Ran call) (RunStops call) }
+        MatchResult result.served (λ requests. ServesRun call requests.asks.items requests.outcomes.items) (StopsRun call) }
 {
-    match prepare(alloc, words, source) {
-        Ok(script) => run_script(alloc, script, device, gate),
-        Err(stop) => RunResult {
+    match read_few(alloc, source) {
+        Ok(bytes) => run_on(alloc, &bytes, device, gate),
+        Err(stop) => Ran {
             served: Err(stop),
             device,
         },
     }
 }
 
-/// Judges the words, reads the source and judges its lines. All memory of the replies is taken here.
-fn prepare<S: Source>(alloc: Global, words: &[String], source: &mut S) -> Result<Requests, RunError>
-    ensures { let read : Reading = record {
-      words = map string_bytes words.now;
-      source = S.rest source.old;
-      left = S.rest source.new;
-      faults_before = S.fault_count source.old;
-      faults = S.fault_count source.new;
-    } in
-        MatchResult result (HasPrepared read) (StopsBefore read) }
+/// Reads the source, and counts its request lines.
+fn read_few<S: Source>(alloc: Global, source: &mut S) -> Result<Vec<u8>, Stop>
+    ensures ok { let read = reading (S.rest source.old) (S.rest source.new) (S.fault_count source.old) (S.fault_count source.new) in
+        IfOk result (λ bytes. ReadsFew read bytes.items) }
+    ensures err { let read = reading (S.rest source.old) (S.rest source.new) (S.fault_count source.old) (S.fault_count source.new) in
+        IfErr result (StopsReadingFew read) }
 {
-    let Some(size) = fresh_map_size(words) else {
-        return Err(RunError::Usage);
-    };
     let bytes = read_all(alloc, source)?;
-    let asks = plain_asks(alloc, &bytes)?;
-    let replies = vec![in alloc; Reply::default(); asks.len()]?;
-    Ok(Requests {
-        size,
-        asks,
-        replies,
-    })
+    if is_short(&bytes) {
+        Ok(bytes)
+    } else {
+        Err(Stop::Many)
+    }
 }
 
-/// Formats the device and serves the script.
-fn run_script<P: Pmem, G: Gate>(
-    alloc: Global,
-    script: Requests,
-    device: P,
-    gate: &G,
-) -> RunResult<P>
-    requires least { 1 ≤ script.size }
-    requires most { script.size ≤ 1024 }
-    requires requests { AreRequests 1 script.asks.items }
-    requires few { length script.asks.items ≤ LAST_NUMBER }
+/// Opens the region, and runs the script of these bytes on it.
+fn run_on<P: Pmem, G: Gate>(alloc: Global, bytes: &[u8], device: P, gate: &G) -> Ran<P>
+    requires { length bytes.now ≤ SOURCE_LIMIT }
     ensures { MatchResult result.served
-        (HasRun script (P.seen device) (P.seen result.device))
-        (StopsRun script (P.seen device) (P.seen result.device)) }
+        (λ served. ServesOn bytes.now (P.seen device) (P.seen result.device) served.asks.items served.outcomes.items)
+        (StopsOn bytes.now (P.seen device) (P.seen result.device)) }
 {
-    let Requests {
-        size,
-        asks,
-        mut replies,
-    } = script;
-    let mut region = match Region::format(alloc, device, size) {
-        Ok(region) => region,
-        Err(refused) => {
-            return RunResult {
-                served: Err(stop_of(&refused.why)),
-                device: refused.device,
-            };
-        }
-    };
-    let served = serve_all(&mut region, gate, &asks, &mut replies);
-    let device = region.close();
-    match served {
-        Ok(()) => RunResult {
-            served: Ok(Requests {
-                size,
-                asks,
-                replies,
-            }),
-            device,
-        },
-        Err(_) => RunResult {
-            served: Err(RunError::DeviceFault),
-            device,
-        },
+    match Pair::open(alloc, device) {
+        Ok(pair) => run_opened(alloc, bytes, pair, gate),
+        Err(why) => refused(why),
     }
 }
 
-/// Why a run stops whose device wasn't formatted.
-fn stop_of(why: &Why) -> RunError
-    requires { IsFormatWhy why.now }
-    ensures { result ≡ stop_for why.now }
+/// The same on the region that was opened, whatever its kind.
+fn run_opened<P: Pmem, G: Gate>(alloc: Global, bytes: &[u8], pair: Pair<P>, gate: &G) -> Ran<P>
+    requires source { length bytes.now ≤ SOURCE_LIMIT }
+    requires opened { IsOpened pair.device pair }
+    ensures { MatchResult result.served
+        (λ served. ServesOn bytes.now pair.device (P.seen result.device) served.asks.items served.outcomes.items)
+        (StopsOn bytes.now pair.device (P.seen result.device)) }
 {
-    match why {
-        Why::Memory => RunError::Memory,
-        Why::Device(_) => RunError::DeviceFault,
-        Why::Taken => RunError::Taken,
-        Why::NoRegion => unreachable!(),
-        Why::Damaged { line: _ } => unreachable!(),
+    match pair.header().kind {
+        Kind::Map => run_comb::<RegMap, P, G>(alloc, bytes, pair, gate),
+        Kind::Stack => run_comb::<Stack, P, G>(alloc, bytes, pair, gate),
+        Kind::Heap => run_comb::<MinHeap, P, G>(alloc, bytes, pair, gate),
+        Kind::Queue => run_queue(alloc, bytes, pair, gate),
     }
+}
+
+/// The same where the object is combined by one engine.
+fn run_comb<O: Object, P: Pmem, G: Gate>(
+    alloc: Global,
+    bytes: &[u8],
+    pair: Pair<P>,
+    gate: &G,
+) -> Ran<P>
+    requires source { length bytes.now ≤ SOURCE_LIMIT }
+    requires opened { IsOpened pair.device pair }
+    requires kind { pair.head.kind ≡ O.KIND }
+    ensures { MatchResult result.served
+        (λ served. ServesOn bytes.now pair.device (P.seen result.device) served.asks.items served.outcomes.items)
+        (StopsOn bytes.now pair.device (P.seen result.device)) }
+{
+    match Comb::<O, P>::adopt(alloc, pair) {
+        Ok(mut comb) => {
+            let served = run_found(alloc, bytes, &mut comb, gate);
+            Ran {
+                served,
+                device: comb.close(),
+            }
+        }
+        Err(why) => refused(why),
+    }
+}
+
+/// The same where the object is a queue.
+fn run_queue<P: Pmem, G: Gate>(alloc: Global, bytes: &[u8], pair: Pair<P>, gate: &G) -> Ran<P>
+    requires source { length bytes.now ≤ SOURCE_LIMIT }
+    requires opened { IsOpened pair.device pair }
+    requires kind { pair.head.kind ≡ Queue }
+    ensures { MatchResult result.served
+        (λ served. ServesOn bytes.now pair.device (P.seen result.device) served.asks.items served.outcomes.items)
+        (StopsOn bytes.now pair.device (P.seen result.device)) }
+{
+    match TwinQueue::adopt(alloc, pair) {
+        Ok(mut queue) => {
+            let served = run_found(alloc, bytes, &mut queue, gate);
+            Ran {
+                served,
+                device: queue.close(),
+            }
+        }
+        Err(why) => refused(why),
+    }
+}
+
+/// Judges the lines, settles the engine that was just opened, and runs the script.
+fn run_found<E: Engine, G: Gate>(
+    alloc: Global,
+    bytes: &[u8],
+    engine: &mut E,
+    gate: &G,
+) -> Result<Requests, Stop>
+    requires source { length bytes.now ≤ SOURCE_LIMIT }
+    requires unsure { (E.seen engine.old).sure ≡ false }
+    requires decided { (E.seen engine.old).doubt ≡ None }
+    ensures ok { IfOk result
+        (λ served. ServesFound (E.seen engine.old).standing.kind (E.seen engine.old) bytes.now (E.seen engine.new) served.asks.items served.outcomes.items) }
+    ensures err { IfErr result (StopsFound (E.seen engine.old).standing.kind (E.seen engine.old) bytes.now (E.seen engine.new)) }
+{
+    let requests = read_requests(alloc, bytes, E::KIND, engine.clients())?;
+    engine.settle()?;
+    Ok(serve(engine, requests, gate))
 }

@@ -1,153 +1,151 @@
 //! Device calls that fail in a formatting, a store, an opening and its settling: each of them, in each way.
-use crate::attempts::{WAYS, kind, left};
 use crate::crash::{first_uncovered, found_at, found_at_the_end};
 use crate::found::Found;
-use crate::pair::{format, open, settle_ops, settled, store_next, stored, tells};
+use crate::logs::{log, worked_device};
+use crate::pair::{opened, settle_ops, settled, stored};
 use crate::rounds::told_rounds;
-use crate::worked::{STATES, device, prefix, worked};
+use pb_fixtures::{
+    Attempt, WAYS, add_failing, failing, failures, format, log_of, store_next, tells, worked,
+};
 use pb_image::{Call, Fail, How, Image};
-use pb_pair::{Pair, Refused, Why};
+use pb_pair::{Pair, Why};
 use pb_pmem::{DeviceFault, LogOp};
-use std::alloc::{AllocError, Global};
+use std::alloc::Global;
 use std::process::Abort;
-use std::test::Fail as TestFail;
 
 // What is told of the first fault.
 const FAULT: DeviceFault = DeviceFault { from: 0, to: 1 };
 
-// The call fails that makes the operation after the first `count` of these: its kind, and its number among those of its kind.
-fn fail_at(rt: &impl Abort, ops: &[LogOp], count: usize, how: How) -> Fail {
-    assert!(rt; count < ops.len());
-    let call = kind(&ops[count]);
-    let mut nth = 1u64;
-    for op in ops.split_at(count).0 {
-        if kind(op) == call {
-            nth = nth.saturating_add(1);
-        }
-    }
-    Fail { call, nth, how }
+// The calls that make the first `count` of these operations, and the next one, which fails.
+fn failing_at(
+    rt: &impl Abort,
+    alloc: Global,
+    ops: &[LogOp],
+    count: usize,
+    how: How,
+) -> Vec<Attempt> {
+    let mut attempts = Vec::new(alloc);
+    add_failing(&mut attempts, ops, count, how).expect(rt, "memory");
+    attempts
 }
 
-// A device of zeros, of which this call fails and no other.
-fn failing(alloc: Global, fail: Fail) -> Result<Image, AllocError> {
-    let mut device = Image::zero(alloc, 64)?;
-    device.failing([fail].to_vec(alloc)?);
-    Ok(device)
+// A device of zeros, of which the call after the first `count` of the worked ones fails.
+fn failing_device(rt: &impl Abort, alloc: Global, count: usize, how: How) -> Image {
+    let attempts = failing_at(rt, alloc, &worked(), count, how);
+    failing(alloc, &attempts, 64).expect(rt, "memory")
 }
 
 // The log is the first of these operations, and what the failing call of the next one leaves.
-fn is_cut_off(log: &[LogOp], ops: &[LogOp], count: usize, how: How) -> bool {
-    if log.len() < count || ops.len() <= count {
-        return false;
-    }
-    let (done, more) = log.split_at(count);
-    done == ops.split_at(count).0
-        && more.first().copied() == left(ops[count], how)
-        && more.len() < 2
+fn is_cut_off(
+    rt: &impl Abort,
+    alloc: Global,
+    log: &[LogOp],
+    ops: &[LogOp],
+    (count, how): (usize, How),
+) -> bool {
+    let attempts = failing_at(rt, alloc, ops, count, how);
+    log == log_of(alloc, &attempts).expect(rt, "memory").as_slice()
 }
 
 // From a moment on, each crash leaves the old state up to the word that switches, the new one after the sync of that, and
 // either between them.
-fn leaves(
+fn look_at_crashes(
     rt: &impl Abort,
     alloc: Global,
     device: &Image,
-    from: u32,
-    switch: u32,
-    states: [Found; 2],
-) -> Result<bool, AllocError> {
+    (from, switch): (usize, usize),
+    (old, new): (Found, Found),
+) {
     let log = device.log();
-    assert!(rt; log.len() <= 64);
-    for moment in from..log.len() as u32 + 1 {
+    for moment in from..log.len() + 1 {
         let is_called = switch <= moment;
-        let is_sealed = is_called && log.get(moment.wrapping_sub(1) as usize) == Some(&LogOp::Sync);
-        for found in found_at(rt, alloc, device, moment)?.iter() {
-            let is_old = !is_sealed && *found == states[0];
-            let is_new = is_called && *found == states[1];
-            if !is_old && !is_new {
-                return Ok(false);
-            }
+        let is_sealed = is_called && log.get(moment.wrapping_sub(1)) == Some(&LogOp::Sync);
+        for found in &found_at(rt, alloc, device, moment) {
+            let is_old = !is_sealed && *found == old;
+            let is_new = is_called && *found == new;
+            assert!(rt; is_old || is_new, "moment {moment}");
         }
     }
-    Ok(true)
 }
 
-// The round that is found when the device works again. Once it is settled, each crash leaves the state after that round.
-fn found_again(
-    rt: &impl Abort,
-    alloc: Global,
-    device: Image,
-) -> Result<Result<u64, Why>, TestFail> {
+// The device works again: this is found, or the round that is. Once it is settled, each crash leaves the state after that round.
+fn finds_again(rt: &impl Abort, alloc: Global, device: Image, want: Result<u64, Why>) {
     let mut device = device;
     device.failing(Vec::new(alloc));
-    let (round, device) = match settled(rt, alloc, device) {
-        Ok(found) => found,
-        Err(why) => return Ok(Err(why)),
-    };
-    for found in found_at_the_end(rt, alloc, &device)?.iter() {
-        assert_eq!(rt; Some(found), STATES.get(round as usize));
+    match settled(rt, alloc, device) {
+        Ok((round, device)) => {
+            assert!(rt; want == Ok(round));
+            for found in &found_at_the_end(rt, alloc, &device) {
+                assert!(rt; *found == Found::Round(round));
+            }
+        }
+        Err(why) => assert!(rt; want == Err(why)),
     }
-    Ok(Ok(round))
 }
 
-// The device of a call that failed, which is told.
-fn refused(rt: &impl Abort, answer: Result<Pair<Image>, Refused<Image>>) -> Image {
-    match answer {
-        Ok(_) => panic!(rt; "no call failed"),
-        Err(refused) => {
-            assert_eq!(rt; refused.why, Why::Device(FAULT));
+// The device that a formatting hands back, of which a call failed.
+fn unformatted(rt: &impl Abort, alloc: Global, device: Image) -> Image {
+    match format(alloc, device) {
+        Some(Err(refused)) => {
+            assert!(rt; refused.why == Why::Device(FAULT));
             refused.device
         }
+        _ => panic!(rt; "no call failed"),
     }
+}
+
+// A device of which a read fails.
+fn failing_read(rt: &impl Abort, alloc: Global, device: Image, nth: u64, how: How) -> Image {
+    let mut device = device;
+    let call = Call::Read;
+    let fails = [Fail { call, nth, how }].to_vec(alloc).expect(rt, "memory");
+    device.failing(fails);
+    device
 }
 
 #[test]
-fn a_formatting_whose_read_fails_writes_nothing(rt: HostRuntime) -> Result<(), TestFail> {
-    let alloc = rt.alloc();
+fn a_formatting_whose_read_fails_writes_nothing(rt: HostRuntime) {
     for how in WAYS {
-        let (call, nth) = (Call::Read, 1);
-        let device = failing(alloc, Fail { call, nth, how })?;
-        let device = refused(&rt, format(&rt, alloc, device));
+        let device = Image::zero(rt.alloc(), 64).expect(&rt, "memory");
+        let device = failing_read(&rt, rt.alloc(), device, 1, how);
+        let device = unformatted(&rt, rt.alloc(), device);
         assert!(rt; device.log().is_empty());
-        assert_eq!(rt; found_again(&rt, alloc, device)?, Err(Why::NoRegion));
+        finds_again(&rt, rt.alloc(), device, Err(Why::NoRegion));
     }
-    Ok(())
 }
 
 // What a formatting leaves, of whose operations the one after the first `count` fails.
-fn format_fails(rt: &impl Abort, alloc: Global, count: usize, how: How) -> Result<(), TestFail> {
-    let fail = fail_at(rt, &worked(alloc)?, count, how);
-    let device = refused(rt, format(rt, alloc, failing(alloc, fail)?));
-    assert!(rt; is_cut_off(device.log(), &worked(alloc)?, count, how));
+fn format_fails(rt: &impl Abort, alloc: Global, count: usize, how: How) {
+    let device = unformatted(rt, alloc, failing_device(rt, alloc, count, how));
+    assert!(rt; is_cut_off(rt, alloc, device.log(), &worked(), (count, how)));
     // The magic is operation 23.
-    let states = [Found::Nothing, STATES[0]];
-    assert!(rt; leaves(rt, alloc, &device, 0, 23, states)?, "{count}");
+    look_at_crashes(
+        rt,
+        alloc,
+        &device,
+        (0, 23),
+        (Found::Nothing, Found::Round(0)),
+    );
     let is_there = device.log().len() >= 23;
     let want = if is_there { Ok(0) } else { Err(Why::NoRegion) };
-    assert_eq!(rt; found_again(rt, alloc, device)?, want, "{count}");
-    Ok(())
+    finds_again(rt, alloc, device, want);
 }
 
 #[test]
-fn a_formatting_that_fails_leaves_no_region_or_the_empty_one(
-    rt: HostRuntime,
-) -> Result<(), TestFail> {
+fn a_formatting_that_fails_leaves_no_region_or_the_empty_one(rt: HostRuntime) {
     for count in 0..25 {
         for how in WAYS {
-            format_fails(&rt, rt.alloc(), count, how)?;
+            format_fails(&rt, rt.alloc(), count, how);
         }
     }
-    Ok(())
 }
 
 // What the store after so many others leaves, on a device that fails then.
-fn failed_store(rt: &impl Abort, alloc: Global, on: Image, stores: u64) -> Result<Image, TestFail> {
-    let mut pair = stored(rt, alloc, on, stores)?;
-    assert_eq!(rt; store_next(rt, &mut pair), Err(FAULT));
-    assert!(rt; !pair.sure());
-    assert!(rt; tells(rt, &pair, stores));
-    assert_eq!(rt; pair.faults(), 1);
-    Ok(pair.close())
+fn failed_store(rt: &impl Abort, alloc: Global, on: Image, stores: u64) -> Image {
+    let mut pair = stored(rt, alloc, on, stores);
+    assert!(rt; store_next(&mut pair) == Some(Err(FAULT)));
+    assert!(rt; !pair.sure() && tells(&pair, stores) && pair.faults() == 1);
+    pair.close()
 }
 
 // The store after so many others, which begins at a moment and whose index word is at another, and of whose operations the one after the
@@ -155,107 +153,81 @@ fn failed_store(rt: &impl Abort, alloc: Global, on: Image, stores: u64) -> Resul
 fn store_fails(
     rt: &impl Abort,
     alloc: Global,
-    (stores, from, switch): (u64, u32, u32),
-    count: usize,
-    how: How,
-) -> Result<(), TestFail> {
-    let [empty, put, get] = STATES;
-    let states = if stores == 0 {
-        [empty, put]
-    } else {
-        [put, get]
-    };
-    let fail = fail_at(rt, &worked(alloc)?, count, how);
-    let device = failed_store(rt, alloc, failing(alloc, fail)?, stores)?;
-    assert!(rt; is_cut_off(device.log(), &worked(alloc)?, count, how));
-    assert!(rt;
-        leaves(rt, alloc, &device, from, switch, states)?,
-        "{count}"
-    );
-    let is_switched = device.log().len() >= switch as usize;
-    let want = if is_switched {
-        stores.saturating_add(1)
-    } else {
-        stores
-    };
-    assert_eq!(rt; found_again(rt, alloc, device)?, Ok(want), "{count}");
-    Ok(())
+    (stores, from, switch): (u64, usize, usize),
+    (count, how): (usize, How),
+) {
+    let on = failing_device(rt, alloc, count, how);
+    let device = failed_store(rt, alloc, on, stores);
+    assert!(rt; is_cut_off(rt, alloc, device.log(), &worked(), (count, how)));
+    let next = stores.saturating_add(1);
+    let states = (Found::Round(stores), Found::Round(next));
+    look_at_crashes(rt, alloc, &device, (from, switch), states);
+    let is_switched = device.log().len() >= switch;
+    let round = if is_switched { next } else { stores };
+    finds_again(rt, alloc, device, Ok(round));
 }
 
 #[test]
-fn a_store_that_fails_leaves_the_state_before_it_or_after_it(
-    rt: HostRuntime,
-) -> Result<(), TestFail> {
+fn a_store_that_fails_leaves_the_state_before_it_or_after_it(rt: HostRuntime) {
     for how in WAYS {
         for count in 25..40 {
-            store_fails(&rt, rt.alloc(), (0, 25, 38), count, how)?;
+            store_fails(&rt, rt.alloc(), (0, 25, 38), (count, how));
         }
         for count in 40..49 {
-            store_fails(&rt, rt.alloc(), (1, 40, 47), count, how)?;
+            store_fails(&rt, rt.alloc(), (1, 40, 47), (count, how));
         }
     }
-    Ok(())
 }
 
 #[test]
-fn settling_seals_the_round_of_a_failed_store(rt: HostRuntime) -> Result<(), TestFail> {
-    let alloc = rt.alloc();
+fn settling_seals_the_round_of_a_failed_store(rt: HostRuntime) {
     // The last sync fails.
-    let last = fail_at(&rt, &worked(alloc)?, 48, How::Left);
-    let mut pair = stored(&rt, alloc, failing(alloc, last)?, 1)?;
-    assert_eq!(rt; store_next(&rt, &mut pair), Err(FAULT));
-    let (round, device) = settled(&rt, alloc, pair.close())?;
-    assert_eq!(rt; round, 2);
-    assert_eq!(rt; first_uncovered(&rt, alloc, &device)?, None);
-    let rounds = told_rounds(&rt, alloc, device.log())?;
-    assert_eq!(rt; rounds.len(), 2);
-    assert_eq!(rt; rounds[0].moment, Some(40));
-    assert_eq!(rt; rounds[1].moment, Some(52));
-    Ok(())
+    let on = failing_device(&rt, rt.alloc(), 48, How::Left);
+    let mut pair = opened(&rt, rt.alloc(), failed_store(&rt, rt.alloc(), on, 1));
+    assert!(rt; tells(&pair, 2) && pair.settle() == Ok(false));
+    let device = pair.close();
+    assert!(rt; first_uncovered(&rt, rt.alloc(), &device).is_none());
+    let rounds = told_rounds(&rt, rt.alloc(), device.log());
+    assert!(rt; rounds.len() == 2);
+    assert!(rt; rounds[0].moment == Some(40) && rounds[1].moment == Some(52));
 }
 
-// Each read of an opening fails in turn, until an opening has no read of that number. How many reads failed.
-fn reads_that_fail(rt: &impl Abort, alloc: Global, how: How) -> Result<u64, TestFail> {
-    let ops = worked(alloc)?;
-    for nth in 1..64 {
-        let mut device = device(rt, alloc, &ops)?;
-        let call = Call::Read;
-        device.failing([Fail { call, nth, how }].to_vec(alloc)?);
-        match Pair::open(alloc, device) {
-            Ok(pair) => {
-                assert!(rt; tells(rt, &pair, 2));
-                return Ok(nth - 1);
-            }
-            Err(refused) => {
-                assert_eq!(rt; refused.why, Why::Device(FAULT));
-                assert_eq!(rt; refused.device.log(), ops.as_slice());
-            }
+// A device that holds two rounds is opened, while a read fails. Whether it failed.
+fn read_fails(rt: &impl Abort, alloc: Global, nth: u64, how: How) -> bool {
+    let device = failing_read(rt, alloc, worked_device(rt, alloc, 49), nth, how);
+    match Pair::open(alloc, device) {
+        Ok(pair) => {
+            assert!(rt; tells(&pair, 2));
+            false
+        }
+        Err(refused) => {
+            assert!(rt; refused.why == Why::Device(FAULT));
+            assert!(rt; refused.device.log() == worked().as_slice());
+            true
         }
     }
-    panic!(rt; "each of 63 openings failed")
 }
 
 #[test]
-fn a_read_that_fails_leaves_the_region_unopened(rt: HostRuntime) -> Result<(), TestFail> {
+fn a_read_that_fails_leaves_the_region_unopened(rt: HostRuntime) {
     for how in WAYS {
-        assert!(rt; reads_that_fail(&rt, rt.alloc(), how)? > 0);
+        let mut failed = 0;
+        for nth in 1..64 {
+            if read_fails(&rt, rt.alloc(), nth, how) {
+                assert!(rt; failed == nth - 1);
+                failed = nth;
+            }
+        }
+        assert!(rt; failed > 0 && failed < 63);
     }
-    Ok(())
 }
 
-// What settling leaves after two rounds, where this call fails.
-fn failed_settling(
-    rt: &impl Abort,
-    alloc: Global,
-    mut device: Image,
-    fail: Fail,
-) -> Result<Image, TestFail> {
-    device.failing([fail].to_vec(alloc)?);
-    let mut pair = open(alloc, device)?;
-    assert_eq!(rt; pair.settle(), Err(FAULT));
-    assert!(rt; !pair.sure());
-    assert!(rt; tells(rt, &pair, 2));
-    Ok(pair.close())
+// What settling leaves after two rounds, where one of its calls fails.
+fn failed_settling(rt: &impl Abort, alloc: Global, device: Image) -> Image {
+    let mut pair = opened(rt, alloc, device);
+    assert!(rt; pair.settle() == Err(FAULT));
+    assert!(rt; !pair.sure() && tells(&pair, 2));
+    pair.close()
 }
 
 // Settling after the first `count` operations of the worked log, of whose own the one after the first `step` fails: round 2 is
@@ -263,32 +235,36 @@ fn failed_settling(
 fn settle_fails(
     rt: &impl Abort,
     alloc: Global,
-    count: u32,
-    old: Found,
-    step: usize,
-    how: How,
-) -> Result<(), TestFail> {
-    assert!(rt; count <= 49 && step < 4);
-    let mut ops = prefix(alloc, count as usize)?;
-    let fail = fail_at(rt, &settle_ops(2), step, how);
-    let device = failed_settling(rt, alloc, device(rt, alloc, &ops)?, fail)?;
-    ops.extend_from_slice(&settle_ops(2))?;
-    assert!(rt; is_cut_off(device.log(), &ops, count as usize + step, how));
+    (count, old): (usize, Found),
+    (step, how): (usize, How),
+) {
+    let mut device = worked_device(rt, alloc, count);
+    let attempts = failing_at(rt, alloc, &settle_ops(2), step, how);
+    device.failing(failures(alloc, &attempts).expect(rt, "memory"));
+    let device = failed_settling(rt, alloc, device);
+    let ops = log(rt, alloc, count, &settle_ops(2));
+    assert!(rt;
+        is_cut_off(
+            rt,
+            alloc,
+            device.log(),
+            &ops,
+            (count.wrapping_add(step), how)
+        )
+    );
     // The index word is operation 47.
-    assert!(rt; leaves(rt, alloc, &device, count, 47, [old, STATES[2]])?);
-    assert_eq!(rt; found_again(rt, alloc, device)?, Ok(2));
-    Ok(())
+    look_at_crashes(rt, alloc, &device, (count, 47), (old, Found::Round(2)));
+    finds_again(rt, alloc, device, Ok(2));
 }
 
 #[test]
-fn settling_that_fails_leaves_what_was_found(rt: HostRuntime) -> Result<(), TestFail> {
+fn settling_that_fails_leaves_what_was_found(rt: HostRuntime) {
     // At rest, and before the sync that seals round 2.
-    for (count, old) in [(49, STATES[2]), (48, STATES[1])] {
+    for (count, old) in [(49, Found::Round(2)), (48, Found::Round(1))] {
         for step in 0..4 {
             for how in WAYS {
-                settle_fails(&rt, rt.alloc(), count, old, step, how)?;
+                settle_fails(&rt, rt.alloc(), (count, old), (step, how));
             }
         }
     }
-    Ok(())
 }

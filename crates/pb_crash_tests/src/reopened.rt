@@ -1,15 +1,11 @@
 //! Regions that are opened after a crash, and again after a crash while they are settled.
-use crate::crash::left_at;
-use crate::found::HEAD;
-use crate::pair::{settled, tells};
-use crate::worked::{device, worked};
+use crate::logs::worked_device;
+use crate::pair::settled;
+use pb_fixtures::{Left, left_at, round_of, tells};
 use pb_image::Image;
 use pb_pair::{Pair, Why};
 use std::alloc::Global;
 use std::process::Abort;
-use std::test::Fail;
-
-const PICKS: [u64; 3] = [0, 1, 7];
 
 /// What an opening finds after a crash of the worked log at a moment, with a cut and the pick 0, 1 or 7.
 ///
@@ -29,14 +25,18 @@ fn stop(moment: u32, cut: u32, pick: u64) -> Result<u64, Why> {
     }
 }
 
+// The devices that a crash at a moment leaves: at each cut, with the picks 0, 1 and 7.
+fn crashes(rt: &impl Abort, alloc: Global, image: &Image, moment: u32) -> Vec<Left> {
+    assert!(rt; moment as usize <= image.log().len());
+    left_at(alloc, image, moment, &[0, 1, 7]).expect(rt, "memory")
+}
+
 // What an opening finds: it writes nothing, and tells the record of the round, or that there is no region.
 fn opened(rt: &impl Abort, alloc: Global, device: Image) -> Result<u64, Why> {
     match Pair::open(alloc, device) {
         Ok(pair) => {
-            assert_eq!(rt; pair.header(), HEAD);
-            let round = pair.round(0);
-            assert!(rt; tells(rt, &pair, round));
-            assert!(rt; pair.close().log().is_empty());
+            let round = round_of(&pair).expect(rt, "the worked region");
+            assert!(rt; tells(&pair, round) && pair.close().log().is_empty());
             Ok(round)
         }
         Err(refused) => {
@@ -47,49 +47,41 @@ fn opened(rt: &impl Abort, alloc: Global, device: Image) -> Result<u64, Why> {
 }
 
 #[test]
-fn each_image_is_opened_as_the_table_of_stops_says(rt: HostRuntime) -> Result<(), Fail> {
-    let alloc = rt.alloc();
-    let image = device(&rt, alloc, &worked(alloc)?)?;
+fn each_image_is_opened_as_the_table_of_stops_says(rt: HostRuntime) {
+    let image = worked_device(&rt, rt.alloc(), 49);
     for moment in 0..50 {
-        for left in left_at(&rt, alloc, &image, moment, &PICKS)? {
+        for left in crashes(&rt, rt.alloc(), &image, moment) {
             let want = stop(moment, left.cut, left.pick);
-            assert_eq!(rt; opened(&rt, alloc, left.device), want, "moment {moment}");
+            assert!(rt;
+                opened(&rt, rt.alloc(), left.device) == want,
+                "moment {moment}"
+            );
         }
     }
-    Ok(())
 }
 
 // Where a region is to be found, each crash while this device is settled leaves what is opened with the same round.
-fn keeps(
-    rt: &impl Abort,
-    alloc: Global,
-    device: Image,
-    want: Result<u64, Why>,
-) -> Result<bool, Fail> {
-    let (round, device) = match settled(rt, alloc, device) {
-        Ok(settled) => settled,
-        Err(why) => return Ok(Err(why) == want),
-    };
-    assert_eq!(rt; device.log().len(), 4);
-    for moment in 0..5 {
-        for left in left_at(rt, alloc, &device, moment, &PICKS)? {
-            if opened(rt, alloc, left.device) != want {
-                return Ok(false);
+fn keeps(rt: &impl Abort, alloc: Global, device: Image, want: Result<u64, Why>) {
+    match settled(rt, alloc, device) {
+        Ok((round, device)) => {
+            assert!(rt; want == Ok(round) && device.log().len() == 4);
+            for moment in 0..5 {
+                for left in crashes(rt, alloc, &device, moment) {
+                    assert!(rt; opened(rt, alloc, left.device) == want);
+                }
             }
         }
+        Err(why) => assert!(rt; want == Err(why)),
     }
-    Ok(want == Ok(round))
 }
 
 #[test]
-fn settling_that_a_crash_stops_changes_nothing(rt: HostRuntime) -> Result<(), Fail> {
-    let alloc = rt.alloc();
-    let image = device(&rt, alloc, &worked(alloc)?)?;
+fn settling_that_a_crash_stops_changes_nothing(rt: HostRuntime) {
+    let image = worked_device(&rt, rt.alloc(), 49);
     for moment in 0..50 {
-        for left in left_at(&rt, alloc, &image, moment, &PICKS)? {
+        for left in crashes(&rt, rt.alloc(), &image, moment) {
             let want = stop(moment, left.cut, left.pick);
-            assert!(rt; keeps(&rt, alloc, left.device, want)?, "moment {moment}");
+            keeps(&rt, rt.alloc(), left.device, want);
         }
     }
-    Ok(())
 }

@@ -1,15 +1,15 @@
 //! The history that a log of the worked region tells, by the places of its operations. The device began with zeros.
-use crate::worked::{GET, PUT, device, prefix};
+use crate::logs::{device, log};
+use pb_fixtures::{GET, PUT};
 use pb_image::Image;
 use pb_layout::client_of;
 use pb_object::{Kept, Kind};
 use pb_pmem::LogOp;
 use std::alloc::Global;
 use std::process::Abort;
-use std::test::Fail;
 
 /// A round that a log tells.
-#[derive(Clone, Copy, Debug, PartialEq, Eq)]
+#[derive(Clone, Copy, PartialEq, Eq)]
 pub struct ToldRound {
     /// The number of operations up to and with its index word.
     pub word: usize,
@@ -67,47 +67,71 @@ fn sealed_after(log: &[LogOp], word: usize) -> Option<usize> {
 }
 
 /// The rounds that a log tells, in the order of their index words: those that raise word 0 of line 1 by one.
-pub fn told_rounds(rt: &impl Abort, alloc: Global, log: &[LogOp]) -> Result<Vec<ToldRound>, Fail> {
+pub fn told_rounds(rt: &impl Abort, alloc: Global, log: &[LogOp]) -> Vec<ToldRound> {
     let mut rounds = Vec::new(alloc);
-    for (place, op) in log.iter().enumerate() {
-        if let LogOp::Word {
+    for place in 0..log.len() {
+        if let Some(round) = told_at(rt, alloc, log, place) {
+            rounds.push(round).expect(rt, "memory");
+        }
+    }
+    rounds
+}
+
+// The round whose index word stands at a place.
+fn told_at(rt: &impl Abort, alloc: Global, log: &[LogOp], place: usize) -> Option<ToldRound> {
+    assert!(rt; place < log.len());
+    let to = index_in(&log[place])?;
+    let before = device(rt, alloc, log.split_at(place).0);
+    if to != before.line(1).words[0].wrapping_add(1) {
+        return None;
+    }
+    let word = place.wrapping_add(1);
+    Some(ToldRound {
+        word,
+        moment: sealed_after(log, word),
+        entry: entry(&before, to),
+    })
+}
+
+// What an operation writes into word 0 of line 1.
+fn index_in(op: &LogOp) -> Option<u64> {
+    match *op {
+        LogOp::Word {
             line: 1,
             word: 0,
             to,
-        } = *op
-        {
-            let before = device(rt, alloc, log.split_at(place).0)?;
-            if to == before.line(1).words[0].wrapping_add(1) {
-                let word = place.wrapping_add(1);
-                rounds.push(ToldRound {
-                    word,
-                    moment: sealed_after(log, word),
-                    entry: entry(&before, to),
-                })?;
-            }
+        } => Some(to),
+        _ => None,
+    }
+}
+
+// The rounds of the worked log by a moment.
+fn worked_rounds(rt: &impl Abort, alloc: Global, moment: usize) -> Vec<ToldRound> {
+    let mut rounds = Vec::new(alloc);
+    // The operation that is the index word, the moment at which it is sealed, and the entry.
+    for (word, sealed, entry) in [(38, 40, PUT), (47, 49, GET)] {
+        if word <= moment {
+            let round = ToldRound {
+                word,
+                moment: if sealed <= moment { Some(sealed) } else { None },
+                entry: Some(entry),
+            };
+            rounds.push(round).expect(rt, "memory");
         }
     }
-    Ok(rounds)
+    rounds
+}
+
+// The first so many worked operations tell those rounds.
+fn tells_its_rounds(rt: &impl Abort, alloc: Global, moment: usize) -> bool {
+    let told = told_rounds(rt, alloc, &log(rt, alloc, moment, &[]));
+    let want = worked_rounds(rt, alloc, moment);
+    told.as_slice() == want.as_slice()
 }
 
 #[test]
-fn the_worked_log_tells_the_put_and_the_get(rt: HostRuntime) -> Result<(), Fail> {
-    let alloc = rt.alloc();
-    // The operation that is the index word, the moment at which it is sealed, and the entry.
-    let all = [(38usize, 40usize, PUT), (47, 49, GET)];
+fn the_worked_log_tells_the_put_and_the_get(rt: HostRuntime) {
     for moment in 0..50 {
-        let mut want = Vec::new(alloc);
-        for (word, sealed, entry) in all {
-            if word <= moment {
-                want.push(ToldRound {
-                    word,
-                    moment: if sealed <= moment { Some(sealed) } else { None },
-                    entry: Some(entry),
-                })?;
-            }
-        }
-        let rounds = told_rounds(&rt, alloc, &prefix(alloc, moment)?)?;
-        assert_eq!(rt; rounds.as_slice(), want.as_slice(), "moment {moment}");
+        assert!(rt; tells_its_rounds(&rt, rt.alloc(), moment), "{moment}");
     }
-    Ok(())
 }

@@ -6,6 +6,3 @@ mod min_heap;
 mod order;
 
 pub use min_heap::MinHeap;
-
-#[cfg(test)]
-mod tests;

@@ -13,8 +13,3 @@ mod writes;
 pub use fail::{Call, Fail, How};
 pub use image::Image;
 pub use sound::Sound;
-
-#[cfg(test)]
-mod slow;
-#[cfg(test)]
-mod tests;

@@ -8,8 +8,6 @@ mod gate;
 mod sink;
 mod source;
 mod standard;
-#[cfg(test)]
-mod tests;
 
 pub use byte_sink::ByteSink;
 pub use byte_source::ByteSource;

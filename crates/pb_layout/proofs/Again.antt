@@ -9,7 +9,8 @@ use Rattle.pb_layout.specs.Header.{header_line_of, header_tests, named_header, o
 use Rattle.pb_layout.specs.declared.fault.LayoutFault.{LayoutFault}
 use Rattle.pb_layout.specs.declared.fault.LayoutFault.TheVariants.{NoMagic, BadHeader, BadRecord}
 use Rattle.pb_layout.specs.declared.header.Header.{Header}
-use Rattle.pb_layout.proofs.OneStanding.{kind_of_code-code, same_header}
+use Rattle.pb_object.proofs.CodeLemmas.{kind_of_code-code}
+use Rattle.pb_layout.proofs.OneStanding.{same_header}
 use Rattle.pb_layout.proofs.Readers.{named_header-of}
 
 within_test : (low high n : ℕ) → low ≤ n → n ≤ high → (nat_le low n && nat_le n high) ≡ true

@@ -15,7 +15,7 @@ use Rattle.pb_layout.specs.Shape.{IsHeader}
 use Rattle.pb_layout.specs.Header.{header_line_of, record_length, word}
 use Rattle.pb_layout.specs.Record.{count_line_of, slot_at, kept_in_slots, IsRecord}
 use Rattle.pb_layout.specs.Region.{record_place, cell_place}
-use Rattle.pb_layout.specs.Represents.{header_for, record_in_use, record_of_side, object_part, object_parts_by, object_parts, kept_list_by, kept_list, newest_of_two, number_at, AreApart, CellsRepresent, records_with, RegionParts}
+use Rattle.pb_layout.specs.Represents.{header_for, record_in_use, record_of_side, object_part, object_parts_by, object_parts, kept_list_by, kept_list, newest_of_two, number_at, AreApart, CellsRepresent, with_record, records_with, RegionParts}
 use Rattle.pb_layout.specs.declared.header.Header.{Header}
 use Rattle.pb_pmem.proofs.Lines.{same_line}
 use Rattle.pb_layout.proofs.Records.{line_at-piece}
@@ -161,11 +161,11 @@ pub record Turns (a b : List Line) (s t : Standing) (side : ℕ) (lines : List L
   pub apart : AreApart (header_for s) (records_with a s side lines)
   pub kept : (client : ℕ) → client < t.clients → kept_list_of t client ≡ kept_list (header_for s) (records_with a s side lines) client
 
-pub with_here : (image : List Line) (s : Standing) (side : ℕ) (lines : List Line) (other : ℕ) → other ≡ side → records_with image s side lines other ≡ lines
-with_here image s side lines other e = grind (arith, nat_tests)
+pub with_here : (records : ℕ → List Line) (side : ℕ) (lines : List Line) (other : ℕ) → other ≡ side → with_record records side lines other ≡ lines
+with_here records side lines other e = grind (arith, nat_tests)
 
-pub with_other : (image : List Line) (s : Standing) (side : ℕ) (lines : List Line) (other : ℕ) → other ≢ side → records_with image s side lines other ≡ record_of_side image s other
-with_other image s side lines other e = grind (arith, nat_tests)
+pub with_other : (records : ℕ → List Line) (side : ℕ) (lines : List Line) (other : ℕ) → other ≢ side → with_record records side lines other ≡ records other
+with_other records side lines other e = grind (arith, nat_tests)
 
 round_here : (s t : Standing) (side : ℕ) → side < length s.rounds → t.rounds ≡ set s.rounds side (rounds_of s side + 1) → rounds_of t side ≡ rounds_of s side + 1
 round_here s t side inside e =
@@ -196,12 +196,12 @@ turn a b s t side lines stands turns =
         | inr other ↦ turns.others x below other ∙ (stands.rounds x below ∙ ap count_line_of (sym (round_other s t side x other turns.rounds)))
       ];
       in_use = λ x below. elim (cases_eq x side) [
-        | inl e ↦ ap (λ (n : ℕ). record_of_side b t n) e ∙ (ap (λ (h : Header). record_in_use b h side (rounds_of t side)) turns.same ∙ (ap (λ (n : ℕ). record_in_use b (header_for s) side n) here ∙ (turns.spare ∙ sym (with_here a s side lines x e))))
-        | inr other ↦ ap (λ (h : Header). record_in_use b h x (rounds_of t x)) turns.same ∙ (ap (λ (n : ℕ). record_in_use b (header_for s) x n) (round_other s t side x other turns.rounds) ∙ (turns.others_in_use x (omega arith) other ∙ sym (with_other a s side lines x other)))
+        | inl e ↦ ap (λ (n : ℕ). record_of_side b t n) e ∙ (ap (λ (h : Header). record_in_use b h side (rounds_of t side)) turns.same ∙ (ap (λ (n : ℕ). record_in_use b (header_for s) side n) here ∙ (turns.spare ∙ sym (with_here (record_of_side a s) side lines x e))))
+        | inr other ↦ ap (λ (h : Header). record_in_use b h x (rounds_of t x)) turns.same ∙ (ap (λ (n : ℕ). record_in_use b (header_for s) x n) (round_other s t side x other turns.rounds) ∙ (turns.others_in_use x (omega arith) other ∙ sym (with_other (record_of_side a s) side lines x other)))
       ];
       own = λ x below. elim (cases_eq x side) [
-        | inl e ↦ own_along (header_for s) (header_for t) side x (rounds_of s side + 1) (rounds_of t x) lines (records x) head (sym e) (sym here ∙ ap (λ (n : ℕ). rounds_of t n) (sym e)) (sym (with_here a s side lines x e)) turns.own
-        | inr other ↦ own_along (header_for s) (header_for t) x x (rounds_of s x) (rounds_of t x) (record_of_side a s x) (records x) head refl (sym (round_other s t side x other turns.rounds)) (sym (with_other a s side lines x other)) (stands.records x (omega arith))
+        | inl e ↦ own_along (header_for s) (header_for t) side x (rounds_of s side + 1) (rounds_of t x) lines (records x) head (sym e) (sym here ∙ ap (λ (n : ℕ). rounds_of t n) (sym e)) (sym (with_here (record_of_side a s) side lines x e)) turns.own
+        | inr other ↦ own_along (header_for s) (header_for t) x x (rounds_of s x) (rounds_of t x) (record_of_side a s x) (records x) head refl (sym (round_other s t side x other turns.rounds)) (sym (with_other (record_of_side a s) side lines x other)) (stands.records x (omega arith))
       ];
       kind = turns.kind;
       size = turns.size;

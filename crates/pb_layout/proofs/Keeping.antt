@@ -19,7 +19,7 @@ use Rattle.pb_object.specs.Request.{LeavesUnusedZero, IsOperation, reply}
 use Rattle.pb_object.specs.Stack.{item_reply, top_item, stack_reply_by}
 use Rattle.pb_object.specs.Standing.{Standing, side_count}
 use Rattle.pb_layout.specs.ClientLine.{LeavesReplyZero, IsReplyTo, IsRecorded}
-use Rattle.pb_layout.proofs.Readers.{answer_of-code}
+use Rattle.pb_object.proofs.CodeLemmas.{answer_of-code}
 
 -- a reply that an action may have
 IsReplyOf : Action → Reply → Type 0

@@ -2,6 +2,7 @@ pub mod Again
 pub mod Checks
 pub mod Decided
 pub mod Keeping
+pub mod KeptLists
 pub mod LegalHistories
 pub mod Lines
 pub mod LogHistories
@@ -14,4 +15,6 @@ pub mod Records
 pub mod Replies
 pub mod ChangedRegion
 pub mod SlotLemmas
+pub mod SparseWrites
 pub mod ShiftedSlots
+pub mod Untouched

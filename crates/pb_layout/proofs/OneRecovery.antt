@@ -22,7 +22,7 @@ use Rattle.pb_layout.specs.Header.{record_length, slot_count, word}
 use Rattle.pb_layout.specs.Laws.{HasOneRecovery}
 use Rattle.pb_layout.specs.Record.{count_line_of, slot_at, kept_in_slots, IsRecord}
 use Rattle.pb_layout.specs.Region.{record_place, cell_place}
-use Rattle.pb_layout.specs.Represents.{header_for, record_at, record_in_use, record_of_side, object_part, object_parts_by, object_parts, kept_list_by, kept_list, newest_of_two, number_at, AreApart, CellsRepresent, RegionParts}
+use Rattle.pb_layout.specs.Represents.{header_for, record_at, record_in_use, record_of_side, object_part, object_parts_by, object_parts, kept_list_by, kept_list, newest_of_two, number_at, AreApart, CellsRepresent, RegionParts, AreRecords}
 use Rattle.pb_layout.specs.Recovered.{listed, state_by, standing_in, Represents, Recovery, NoRegion, DamagedAt, Recovered, Recovers}
 use Rattle.pb_layout.specs.declared.header.Header.{Header}
 use Rattle.pb_layout.specs.declared.header.TheConstants.{MAGIC}
@@ -338,3 +338,17 @@ pub one_recovery : (image : List Line) → length image ≡ LINES → HasOneReco
 one_recovery image whole =
     let found = some_recovery image whole in
     record { recovery = found.0; recovers = found.1; alone = λ other recovers. one_recovery_each image other found.0 recovers found.1 }
+
+-- the records in use of a region are records of what it represents
+pub region_records : (image : List Line) (s : Standing) → RegionParts image s → AreRecords (record_of_side image s) s
+region_records image s has = record {
+  valid = has.valid;
+  sides = has.sides;
+  own = has.records;
+  kind = has.kind;
+  size = has.size;
+  state = has.state;
+  clients = has.clients;
+  apart = has.apart;
+  kept = has.kept;
+}

@@ -5,7 +5,6 @@ use Rattle.pb_pmem.specs.declared.line.Line.{Line}
 use Rattle.pb_pmem.specs.Lines.{line_at}
 use Rattle.pb_object.specs.declared.kind.Kind.{Kind}
 use Rattle.pb_object.specs.declared.kind.Kind.TheVariants.{Map, Stack, Heap, Queue}
-use Rattle.pb_object.specs.Codes.{kind_code, kind_of_code}
 use Rattle.pb_object.specs.Heap.{rising_of}
 use Rattle.pb_object.specs.ItemLines.{WordsRepresentItems}
 use Rattle.pb_object.specs.Map.{Register, empty_register}
@@ -14,24 +13,11 @@ use Rattle.pb_object.specs.Queue.{Waiting}
 use Rattle.pb_object.specs.Object.{State, Registers, Items, Rising, Waits}
 use Rattle.pb_object.specs.ObjectLines.{kind_of, size_of, WordsRepresent}
 use Rattle.pb_object.specs.Standing.{Standing, side_count}
+use Rattle.pb_object.proofs.CodeLemmas.{same_kind}
 use Rattle.pb_layout.specs.Header.{header_line_of, word}
 use Rattle.pb_layout.specs.Region.{cell_place}
 use Rattle.pb_layout.specs.Represents.{header_for, record_in_use, record_of_side, object_parts, kept_list, CellsRepresent, RegionParts}
 use Rattle.pb_layout.specs.declared.header.Header.{Header}
-
--- a kind's code is read as that kind
-pub kind_of_code-code : (kind : Kind) → kind_of_code (kind_code kind) ≡ Some kind
-kind_of_code-code Map = refl
-kind_of_code-code Stack = refl
-kind_of_code-code Heap = refl
-kind_of_code-code Queue = refl
-
-pub same_kind : (a b : Kind) → kind_code a ≡ kind_code b → a ≡ b
-same_kind a b e =
-    let left = kind_of_code-code a in
-    let right = kind_of_code-code b in
-    let same = ap kind_of_code e in
-    cc
 
 -- a line spells one header
 pub same_header : (a b : Header) → header_line_of a ≡ header_line_of b → a ≡ b

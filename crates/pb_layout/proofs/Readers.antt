@@ -24,29 +24,7 @@ use Rattle.pb_layout.specs.Shape.{IsHeader}
 use Rattle.pb_layout.specs.Header.{header_line_of, IsHeaderLine, named_header, word}
 use Rattle.pb_layout.specs.declared.header.Header.{Header}
 use Rattle.pb_layout.proofs.Decided.{Decided, decided_by, decided_both, decided_either, decided_if, decided_eq, decided_lt, decided_le, decided_all, decided_option, decided_contains, decided_line}
-use Rattle.pb_layout.proofs.OneStanding.{kind_of_code-code, same_kind}
-
--- answers are told apart by their codes
-pub answer_of-code : (a : Answer) → answer_of (answer_code a) ≡ Some a
-unfolding answer_of
-answer_of-code Is = refl
-answer_of-code Was = refl
-answer_of-code Stale = refl
-answer_of-code NoKey = refl
-answer_of-code Worn = refl
-answer_of-code Depth = refl
-answer_of-code Full = refl
-answer_of-code Item = refl
-answer_of-code Empty = refl
-answer_of-code Size = refl
-answer_of-code At = refl
-
-same_answer : (a b : Answer) → answer_code a ≡ answer_code b → a ≡ b
-same_answer a b e =
-    let left = answer_of-code a in
-    let right = answer_of-code b in
-    let same = ap answer_of e in
-    cc
+use Rattle.pb_object.proofs.CodeLemmas.{kind_of_code-code, same_kind, same_answer}
 
 decided_answer : (a b : Answer) → Decided (a ≡ b)
 decided_answer a b = decided_by (same_answer a b) (ap answer_code) (decided_eq (answer_code a) (answer_code b))

@@ -12,21 +12,8 @@ use Rattle.pb_object.specs.Codes.{action_of, action_kind, action_side, argument_
 use Rattle.pb_object.specs.History.{IsOfSide}
 use Rattle.pb_object.specs.Map.{Register, last_version, register_at, write_reply, register_reply, map_reply}
 use Rattle.pb_object.specs.Request.{IsOperation, LeavesUnusedZero, reply}
+use Rattle.pb_object.proofs.CodeLemmas.{answer_of-code}
 use Rattle.pb_layout.specs.ClientLine.{IsReplyTo, LeavesReplyZero}
-
-answer_of-code : (answer : Answer) → answer_of (answer_code answer) ≡ Some answer
-unfolding answer_of
-answer_of-code Is = refl
-answer_of-code Was = refl
-answer_of-code Stale = refl
-answer_of-code NoKey = refl
-answer_of-code Worn = refl
-answer_of-code Depth = refl
-answer_of-code Full = refl
-answer_of-code Item = refl
-answer_of-code Empty = refl
-answer_of-code Size = refl
-answer_of-code At = refl
 
 -- a reply that an action may have
 abbrev Suits : Action → Reply → Type 0

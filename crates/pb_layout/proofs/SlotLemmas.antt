@@ -1,5 +1,5 @@
 -- Lemmas on the slots of a client, and on the requests that they hold.
-use Rattle.std.proofs.Common.{◌≡◌, ◌≢◌, ◌⊎◌, ℕ, zero, suc, ◌+◌, ◌-◌, ◌*◌, ◌%◌, ◌<◌, ◌≤◌, ◌==◌, nat_lt, List, [], ◌∷◌, take, drop, get_or, if◌then◌else◌, refl, sym, ap, ◌∙◌, subst, inl, inr, arith}
+use Rattle.std.proofs.Common.{◌≡◌, ◌≢◌, ◌⊎◌, ℕ, zero, suc, ◌+◌, ◌-◌, ◌*◌, ◌<◌, ◌≤◌, ◌==◌, nat_lt, List, [], ◌∷◌, take, drop, get_or, if◌then◌else◌, refl, sym, ap, ◌∙◌, subst, inl, inr, arith}
 use Rattle.std.proofs.lemmas.Bool.{cases_eq, cases_lt}
 use Rattle.std.proofs.lemmas.Bool.Decides.{nat_tests}
 use Rattle.std.proofs.lemmas.List.{get_or-drop, drop-drop}
@@ -13,7 +13,7 @@ use Rattle.pb_object.specs.Request.{none_kept}
 use Rattle.pb_object.specs.Standing.{newest}
 use Rattle.pb_layout.specs.ClientLine.{client_line_of, kept_in, IsKept}
 use Rattle.pb_layout.specs.Header.{slot_count, word}
-use Rattle.pb_layout.specs.Record.{slot_line_at, kept_from, kept_in_slots, IsSlot, AreSlots}
+use Rattle.pb_layout.specs.Record.{slot_line_at, kept_from, kept_in_slots, AreSlots}
 use Rattle.pb_layout.specs.Represents.{newest_of_two}
 use Rattle.pb_layout.specs.Slots.{AreClientSlots, slots_from, newer_of}
 use Rattle.pb_layout.specs.declared.header.Header.{Header}
@@ -30,7 +30,7 @@ pub kept_from-more : (lines : List Line) (first count : ℕ) → kept_from lines
 unfolding kept_from
 kept_from-more lines first count = refl
 
-with_slot-empty : (line : Line) (rest : List Kept) → word line 0 ≡ 0 → with_slot line rest ≡ rest
+pub with_slot-empty : (line : Line) (rest : List Kept) → word line 0 ≡ 0 → with_slot line rest ≡ rest
 with_slot-empty line rest e = grind (arith, nat_tests)
 
 with_slot-full : (line : Line) (rest : List Kept) → word line 0 ≢ 0 → with_slot line rest ≡ kept_in line ∷ rest
@@ -54,7 +54,7 @@ abbrev pub Falling : List Line → ℕ → ℕ → Type 0
 Falling lines first count =
     (k : ℕ) → suc k < count → word (line_at lines (first + suc k)) 0 ≢ 0 → word (line_at lines (first + suc k)) 0 < word (line_at lines (first + k)) 0
 
-falling_after : (lines : List Line) (first count : ℕ) → Falling lines first (suc count) → Falling lines (suc first) count
+pub falling_after : (lines : List Line) (first count : ℕ) → Falling lines first (suc count) → Falling lines (suc first) count
 falling_after lines first count falling k inside some =
     let here : first + suc k ≡ suc first + k = omega arith in
     let next : first + suc (suc k) ≡ suc first + suc k = omega arith in

@@ -16,7 +16,7 @@ use Rattle.pb_layout.specs.ClientLine.{client_line_of}
 use Rattle.pb_layout.specs.Header.{record_length}
 use Rattle.pb_layout.specs.Record.{count_line_of, slot_line_at, client_line_at}
 use Rattle.pb_layout.specs.Region.{cell_place}
-use Rattle.pb_layout.specs.Represents.{header_for, record_of_side, object_parts, records_with}
+use Rattle.pb_layout.specs.Represents.{header_for, record_of_side, object_parts, with_record}
 use Rattle.pb_layout.specs.declared.header.Header.{Header}
 
 -- an entry stands in front of its client's slots of the record before, and the oldest one goes
@@ -27,15 +27,19 @@ pub record HasEntry (before lines : List Line) (entry : Entry) : Type 0 where
 abbrev pub IsOfOther : ℕ → Entry → Type 0
 IsOfOther client entry = entry.client ≢ client
 
--- these lines are what a round makes of its side's record, in a region that represents s: they carry the next round number, its entries
+-- these lines are what a round makes of its side's record, where the records in use say s: they carry the next round number, its entries
 -- stand in front of their clients' slots, the other clients' slots are the same, and the object lines represent the next state
-pub record IsNextRecord (image : List Line) (s : Standing) (round : Round) (lines : List Line) : Type 0 where
+pub record IsNextOf (records : ℕ → List Line) (s : Standing) (round : Round) (lines : List Line) : Type 0 where
   pub legal : IsLegalRound s round
   pub long : length lines ≡ record_length (header_for s)
   pub carries : line_at lines 0 ≡ count_line_of (rounds_of s round.side + 1)
-  pub entries : All (HasEntry (record_of_side image s round.side) lines) round.entries
-  pub others : (client slot : ℕ) → client < s.clients → slot < KEPT_REQUESTS → All (IsOfOther client) round.entries → slot_line_at lines client slot ≡ slot_line_at (record_of_side image s round.side) client slot
-  pub state : LinesRepresent (object_parts (header_for s) (records_with image s round.side lines)) (after_round s round).state
+  pub entries : All (HasEntry (records round.side) lines) round.entries
+  pub others : (client slot : ℕ) → client < s.clients → slot < KEPT_REQUESTS → All (IsOfOther client) round.entries → slot_line_at lines client slot ≡ slot_line_at (records round.side) client slot
+  pub state : LinesRepresent (object_parts (header_for s) (with_record records round.side lines)) (after_round s round).state
+
+-- .. in a region that represents s
+abbrev pub IsNextRecord : List Line → Standing → Round → List Line → Type 0
+IsNextRecord image s round lines = IsNextOf (record_of_side image s) s round lines
 
 -- the position of the next item that is put into a queue; 0 for the other objects
 abbrev pub next_position : State → ℕ

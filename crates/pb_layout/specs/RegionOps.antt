@@ -1,10 +1,11 @@
 -- The operations of the calls on a region, in their order.
-use Rattle.std.specs.Prelude.{ℕ, ◌+◌, ◌%◌, ◌==◌, List, [], ◌∷◌, ◌++◌, length, if◌then◌else◌}
+use Rattle.std.specs.Prelude.{ℕ, suc, ◌+◌, ◌%◌, ◌==◌, Bool, List, [], ◌∷◌, ◌++◌, drop, length, Option, Some, None, eqb, if◌then◌else◌}
+use Rattle.std.specs.Cmp.Lexicographic.{pointwise}
 use Rattle.pb_pmem.specs.declared.line.Line.{Line}
 use Rattle.pb_pmem.specs.declared.log.LogOp.{LogOp}
 use Rattle.pb_pmem.specs.declared.log.LogOp.TheVariants.{Whole, Word, Back, Fence, Sync}
 use Rattle.pb_pmem.specs.Operations.{writes_from}
-use Rattle.pb_pmem.specs.Lines.{zero_line}
+use Rattle.pb_pmem.specs.Lines.{line_at, zero_line}
 use Rattle.pb_object.specs.Codes.{kind_code}
 use Rattle.pb_object.specs.Standing.{Standing, side_count, rounds_of}
 use Rattle.pb_layout.specs.Header.{record_length, old_record_length, old_first_record_line}
@@ -37,6 +38,29 @@ stage_by writes head side round = fenced_ops writes (spare_place head side round
 
 abbrev pub store_by : List LogOp → Header → ℕ → ℕ → List LogOp
 store_by writes head side round = stage_by writes head side round ++ commit_ops side (round + 1)
+
+-- A store of those lines alone that differ from what is there. Whether two lines have the same words
+abbrev pub is_same : Line → Line → Bool
+is_same a b = pointwise eqb a.words b.words
+
+-- writes of those lines that differ from the ones that are there, in rising order, from a line on
+unfoldable pub changes_from : ℕ → List Line → List Line → List LogOp
+changes_from first before [] = []
+changes_from first before (line ∷ lines) =
+    (if is_same (line_at before 0) line then [] else Whole first line ∷ []) ++ changes_from (suc first) (drop 1 before) lines
+
+-- writes of a record's lines: of those that differ from what is known to be there, and of all where nothing is known
+abbrev pub writes_over : ℕ → Option (List Line) → List Line → List LogOp
+writes_over first None lines = writes_from first lines
+writes_over first (Some before) lines = changes_from first before lines
+
+-- the lines are written where the spare record is, given to the device and fenced ..
+abbrev pub stage_over : ℕ → Option (List Line) → List Line → List LogOp
+stage_over first spare lines = fenced_ops (writes_over first spare lines) first (length lines)
+
+-- .. and then the side switches to them: a store of these lines after so many rounds of a side, over what is known of its spare record
+abbrev pub store_over : Header → ℕ → ℕ → Option (List Line) → List Line → List LogOp
+store_over head side round spare lines = stage_over (spare_place head side round) spare lines ++ commit_ops side (round + 1)
 
 -- Formatting. The words of the header after the magic ..
 abbrev pub header_words : Header → List LogOp

@@ -86,9 +86,25 @@ CellsRepresent image head (Waits size queue) =
 abbrev pub record_of_side : List Line → Standing → ℕ → List Line
 record_of_side image s side = record_in_use image (header_for s) side (rounds_of s side)
 
--- the records in use, where a side's has been exchanged for these lines
+-- records, where a side's has been exchanged for these lines
+abbrev pub with_record : (ℕ → List Line) → ℕ → List Line → ℕ → List Line
+with_record records side lines other = if other == side then lines else records other
+
+-- the records in use of a region that represents s, where a side's has been exchanged
 abbrev pub records_with : List Line → Standing → ℕ → List Line → ℕ → List Line
-records_with image s side lines other = if other == side then lines else record_of_side image s other
+records_with image s side lines = with_record (record_of_side image s) side lines
+
+-- the records in use say s, but for a queue's items, which lie in its cells
+pub record AreRecords (records : ℕ → List Line) (s : Standing) : Type 0 where
+  pub valid : IsHeader (header_for s)
+  pub sides : length s.rounds ≡ side_count s.kind
+  pub own : (side : ℕ) → side < side_count s.kind → IsRecord (header_for s) side (rounds_of s side) (records side)
+  pub kind : kind_of s.state ≡ s.kind
+  pub size : size_of s.state ≡ s.size
+  pub state : LinesRepresent (object_parts (header_for s) records) s.state
+  pub clients : length s.kept ≡ s.clients
+  pub apart : AreApart (header_for s) records
+  pub kept : (client : ℕ) → client < s.clients → kept_list_of s client ≡ kept_list (header_for s) records client
 
 -- the lines are a region whose parts say s
 pub record RegionParts (image : List Line) (s : Standing) : Type 0 where

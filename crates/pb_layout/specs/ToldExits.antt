@@ -1,15 +1,15 @@
 -- Exits of calls over a device that tells its log.
-use Rattle.std.specs.Prelude.{◌≡◌, ◌⊎◌, List, [], ◌∷◌, Option, Some, None, IfSome}
+use Rattle.std.specs.Prelude.{◌≡◌, ◌⊎◌, List, [], ◌∷◌, Option, Some, None, IfSome, ℕ, ◌≤◌, length}
 use Rattle.pb_pmem.specs.declared.line.Line.{Line}
 use Rattle.pb_pmem.specs.declared.log.LogOp.{LogOp}
 use Rattle.pb_pmem.specs.Contents.{contents}
 use Rattle.pb_pmem.specs.Device.{Device, Tale}
 use Rattle.pb_pmem.specs.Operations.{with_ops}
-use Rattle.pb_object.specs.History.{Round, History, state_after}
+use Rattle.pb_object.specs.History.{Round, History, state_after, after_round}
 use Rattle.pb_object.specs.Standing.{Standing}
 use Rattle.pb_layout.specs.Doubt.{either_state, IsRoundInDoubt, HasRoundLanded}
 use Rattle.pb_layout.specs.Exits.{ImagesAlwaysRepresent, IsExit, empty_for}
-use Rattle.pb_layout.specs.LogHistory.{LoggedRound, rounds_in, AreSealed}
+use Rattle.pb_layout.specs.LogHistory.{LoggedRound, rounds_in, AreSealed, history_of}
 use Rattle.pb_layout.specs.Ready.{IsReady}
 use Rattle.pb_layout.specs.Recovered.{Represents}
 use Rattle.pb_layout.specs.declared.header.Header.{Header}
@@ -50,3 +50,12 @@ pub record StaysFound (tale : Tale) (new : Device) (s : Standing) : Type 0 where
   pub ops : List LogOp
   pub told : new.told ≡ Some (with_ops ops tale)
   pub images : ImagesAlwaysRepresent tale.base tale.log ops s
+
+-- all rounds that a log told before are sealed now
+abbrev pub AllSealed : Tale → Device → Type 0
+AllSealed tale new = IfSome new.told (λ after. (from : ℕ) → from ≤ length tale.log → AreSealed (history_of after.base after.log from))
+
+-- the round has landed still
+pub record StaysLanded (tale : Tale) (new : Device) (s : Standing) (round : Round) : Type 0 where
+  pub left : IsCoveredExit tale new (after_round s round) [] (either_state s round)
+  pub still : IfSome new.told (λ after. HasRoundLanded after.base after.log s round)

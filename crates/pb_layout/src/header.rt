@@ -22,7 +22,8 @@ pub const MOST_SIZE: u32 = 1024;
 
 /// What a region holds: the kind of its object, how many clients have slots in it, and the object's size.
 ///
-/// Each header has 1 to [`MOST_CLIENTS`] clients and a size of 1 to [`MOST_SIZE`]: a contract sees it as a `Shape` that `IsHeader` holds of.
+/// Each header has 1 to [`MOST_CLIENTS`] clients and a size of 1 to [`MOST_SIZE`]: a contract sees it as a `Shape`
+/// that `IsHeader` holds of.
 #[derive(Clone, Copy, Debug, PartialEq, Eq)]
 pub struct Header {
     pub kind: Kind,

@@ -1,17 +1,23 @@
 //! What holds of all lines, and of what is written and read again. These functions are here for their contracts.
-ghost use Rattle.std.specs.Prelude.{◌≡◌, ℕ, ◌+◌, ◌≤◌, List, [], ◌∷◌, ◌++◌, All, length, Option, Some, Ok};
+ghost use Rattle.std.specs.Prelude.{◌≡◌, ℕ, ◌+◌, ◌*◌, ◌<◌, ◌≤◌, List, [], ◌∷◌, ◌++◌, All, length, Option, Some, Ok};
 ghost use Rattle.pb_pmem.specs.declared.line.Line.{Line};
 ghost use Rattle.pb_pmem.specs.declared.log.LogOp.{LogOp};
 ghost use Rattle.pb_pmem.specs.Contents.{contents};
 ghost use Rattle.pb_pmem.specs.Crash.{IsAtRest};
+ghost use Rattle.pb_object.specs.declared.request.TheConstants.{LAST_NUMBER};
 ghost use Rattle.pb_object.specs.History.{History, IsLegal, state_after};
-ghost use Rattle.pb_object.specs.Standing.{Standing};
+ghost use Rattle.pb_object.specs.KeptLists.{HasKeptLists};
+ghost use Rattle.pb_object.specs.Standing.{Standing, side_count, rounds_of};
 ghost use Rattle.pb_layout.specs.ClientLine.{IsKept};
 ghost use Rattle.pb_layout.specs.Shape.{IsHeader};
 ghost use Rattle.pb_layout.specs.Laws.{RepresentsOne, HasOneRecovery};
 ghost use Rattle.pb_layout.specs.LogHistory.{history_of};
 ghost use Rattle.pb_layout.specs.Once.{HasNumbersOnce, numbers_of};
 ghost use Rattle.pb_layout.specs.Ready.{ImageRepresents, IsAllowed, IsReady};
+ghost use Rattle.pb_layout.specs.Record.{number_sum};
+ghost use Rattle.pb_layout.specs.Recovered.{Represents};
+ghost use Rattle.pb_layout.specs.Represents.{record_of_side};
+ghost use Rattle.pb_layout.specs.declared.header.TheConstants.{MOST_CLIENTS};
 ghost use Rattle.pb_layout.specs.HistoryByPlaces.{TellsByPlaces};
 
 use crate::cells::{cell, cell_of};
@@ -88,4 +94,24 @@ pub fn rounds_are_few()
         → length s.kept ≡ s.clients
         → IsLegal s history
         → length history + numbers_of s ≤ numbers_of (state_after s history) }
+{}
+
+/// What a region keeps of each client is a kept list: at most eight requests, whose numbers fall.
+pub fn regions_keep_lists()
+    ensures { (image : List Line) (s : Standing) → Represents image s → HasKeptLists s }
+{}
+
+/// A side of a region has at most as many rounds as the newest numbers in its slots sum to, and these sum to at most the clients' newest
+/// numbers. Those of up to sixteen clients with kept lists, as a region has them, sum to at most sixteen last numbers.
+pub fn numbers_are_few()
+    ensures rounds { (image : List Line) (s : Standing) (side : ℕ)
+        → Represents image s
+        → side < side_count s.kind
+        → rounds_of s side ≤ number_sum (record_of_side image s side) s.clients }
+    ensures side { (image : List Line) (s : Standing) (side : ℕ)
+        → Represents image s
+        → side < side_count s.kind
+        → number_sum (record_of_side image s side) s.clients ≤ numbers_of s }
+    ensures all { (s : Standing) → HasKeptLists s → s.clients ≤ MOST_CLIENTS → numbers_of s ≤ MOST_CLIENTS * LAST_NUMBER }
+    ensures region { (image : List Line) (s : Standing) → Represents image s → numbers_of s ≤ MOST_CLIENTS * LAST_NUMBER }
 {}

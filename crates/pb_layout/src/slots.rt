@@ -47,7 +47,8 @@ pub fn kept_of_both(puts: &[Line], takes: &[Line], client: u32, place: u32) -> K
     requires takes_room { 8 * client + 8 < length takes.now }
     requires puts { AreClientSlots Queue 0 puts.now client }
     requires takes { AreClientSlots Queue 1 takes.now client }
-    ensures { result ≡ slice_index_or (newest_of_two KEPT_REQUESTS (kept_in_slots puts.now client) (kept_in_slots takes.now client)) place none_kept }
+    ensures { let newest = newest_of_two KEPT_REQUESTS (kept_in_slots puts.now client) (kept_in_slots takes.now client) in
+        result ≡ slice_index_or newest place none_kept }
 {
     let mut puts_before = 0;
     let mut takes_before = 0;

@@ -12,10 +12,10 @@ use Rattle.pb_object.specs.Standing.{Standing, keep, kept_list_of, rounds_of, si
 use Rattle.pb_layout.specs.Once.{number_of}
 use Rattle.pb_layout.specs.Record.{number_sum, AreSmall}
 use Rattle.pb_layout.specs.Recovered.{Represents}
-use Rattle.pb_layout.specs.Represents.{header_for, record_of_side, RegionParts}
+use Rattle.pb_layout.specs.Represents.{header_for, record_of_side, RegionParts, AreRecords}
 use Rattle.pb_layout.specs.declared.header.TheConstants.{MOST_CLIENTS}
 use Rattle.pb_layout.proofs.LegalHistories.{KeepsAll, after_entries-keeps}
-use Rattle.pb_layout.proofs.OneRecovery.{parts}
+use Rattle.pb_layout.proofs.OneRecovery.{parts, region_records}
 use Rattle.pb_layout.proofs.Records.{are_small, number_sum-none, number_sum-more}
 
 -- The rounds of a region
@@ -26,17 +26,17 @@ number_sum-few lines (suc clients) small =
     omega (arith, number_sum-more lines clients, number_sum-few lines clients (λ client inside. small client (omega arith)), small clients (omega arith))
 
 -- a side has at most as many rounds as its clients' numbers sum to
-pub side_rounds_few : (image : List Line) (s : Standing) (side : ℕ) → Represents image s → rounds_of s side ≤ MOST_CLIENTS * LAST_NUMBER
-side_rounds_few image s side stands = go (cases_lt side (side_count s.kind))
+pub records_few : (records : ℕ → List Line) (s : Standing) → AreRecords records s → (side : ℕ) → rounds_of s side ≤ MOST_CLIENTS * LAST_NUMBER
+records_few records s has side = go (cases_lt side (side_count s.kind))
   where
-    has : RegionParts image s
-    has = parts image s stands
-
     go : (side < side_count s.kind) ⊎ (side_count s.kind ≤ side) → rounds_of s side ≤ MOST_CLIENTS * LAST_NUMBER
     go (inl here) =
-        let record_lines = record_of_side image s side in
-        omega (arith, (has.records side here).rounds, number_sum-few record_lines s.clients (are_small (header_for s) side record_lines (has.records side here).slots), has.valid.few_clients)
+        omega (arith, (has.own side here).rounds, number_sum-few (records side) s.clients (are_small (header_for s) side (records side) (has.own side here).slots), has.valid.few_clients)
     go (inr past) = omega (arith, get_or_past s.rounds side 0 (omega (arith, has.sides)))
+
+pub side_rounds_few : (image : List Line) (s : Standing) (side : ℕ) → Represents image s → rounds_of s side ≤ MOST_CLIENTS * LAST_NUMBER
+side_rounds_few image s side stands =
+    records_few (record_of_side image s) s (region_records image s (parts image s stands)) side
 
 -- and twice the sum and one more fit a word
 pub rounds_fit : (image : List Line) (s : Standing) → Represents image s → 2 * (rounds_of s 0 + rounds_of s 1) + 1 < 18446744073709551616

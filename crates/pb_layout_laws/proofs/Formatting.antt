@@ -16,8 +16,8 @@ use Rattle.pb_pmem.specs.Device.{IsMark, MayAdd}
 use Rattle.pb_pmem.specs.Lines.{word_of}
 use Rattle.pb_pmem.specs.Past.{Words, DiffersBy, Bounds}
 use Rattle.pb_pmem.proofs.Bounds.{Bounds-weaker}
-use Rattle.pb_pmem.proofs.Lines.{contents-append, contents_push, length-contents}
-use Rattle.pb_pmem.proofs.CrashLaws.{IsCrashImage-contents}
+use Rattle.pb_pmem.proofs.Lines.{contents-append, contents_push, length-contents, contents-none}
+use Rattle.pb_pmem.proofs.CrashLaws.{IsCrashImage-contents, IsAtRest-none}
 use Rattle.pb_object.specs.Standing.{Standing, rounds_of}
 use Rattle.pb_layout.specs.Covers.{Covers, IsCoveredBy}
 use Rattle.pb_layout.specs.Damage.{HasRegion}
@@ -40,6 +40,8 @@ use Rattle.pb_layout_laws.proofs.WritingRegion.{laying, IsWrittenIn, laid_in}
 use Rattle.pb_layout_laws.proofs.Preparing.{nothing_of_bare, bare_start, nothing_at_start, quiet_front, quiet_leaves, giving, prepare_ops-is, preparing_quiet, laying_quiet}
 use Rattle.pb_layout_laws.proofs.Quiet.{IsQuiet, Bare, quiet-records, quiet-no_sync, quiet-bare, HasGiven, push_write, push_back, push_fence, push_sync}
 use Rattle.pb_layout_laws.proofs.OneUnsealed.{covered_stepwise}
+use Rattle.pb_layout.proofs.Readiness.{at_rest_is_ready}
+use Rattle.pb_layout_laws.proofs.ReadyWithOne.{only_member}
 
 -- Where formatting may be left from its magic on
 
@@ -503,3 +505,8 @@ makes_a_region base log head first second valid long empty ready = record {
     keeps line word to (inl settle_ops) before image formed differs =
         appears_formed head lines before image (settling_appears head first second lines line word to before image settle_ops (fresh_laid base log head first second is) formed.1 differs) formed
     keeps line word to (inr other) before image formed differs = absurd other
+
+-- formatting lines that have no region makes them the empty one
+pub formatted_stands : (head : Header) (first lines : List Line) → IsHeader head → AreEmptyRecords head first [] → length lines ≡ LINES → ¬ HasRegion lines → Represents (contents lines (format_ops head first [])) (empty_for head)
+formatted_stands head first lines valid empty long bare =
+    only_member _ (empty_for head) (makes_a_region lines [] head first [] valid long empty (at_rest_is_ready lines [] None (IsAtRest-none lines) (subst (λ ls. ¬ HasRegion ls) (sym (contents-none lines)) bare))).ready.holds

@@ -17,6 +17,7 @@ use Rattle.pb_layout.specs.LogHistory.{number_in, entry_in, entries_between, rou
 use Rattle.pb_layout.specs.Record.{client_line_at}
 use Rattle.pb_layout.specs.Represents.{header_for, record_at, record_in_use, record_of_side, RegionParts}
 use Rattle.pb_layout.specs.declared.header.Header.{Header}
+use Rattle.pb_layout.proofs.OneRecovery.{region_records}
 use Rattle.pb_layout.proofs.Readers.{named_by_line}
 use Rattle.pb_layout.specs.NextRecord.{HasEntry, IsOfOther, IsNextRecord}
 use Rattle.pb_layout_laws.proofs.NextRecord.{number_kept}
@@ -127,7 +128,7 @@ next_entries c s round lines stands next =
     let rise = rise_from_zero round.entries next.legal.rising in
     let here = next_side s round next.legal in
     entries_between-are (record_of_side c s round.side) lines s.clients round.entries rise
-    (legal_between (record_of_side c s round.side) lines s s round.side 0 round.entries refl (λ client above. refl) (λ client inside. number_kept c s round.side client stands here inside) next.legal.legal rise next.entries)
+    (legal_between (record_of_side c s round.side) lines s s round.side 0 round.entries refl (λ client above. refl) (λ client inside. number_kept (record_of_side c s) s round.side client (region_records c s stands) here inside) next.legal.legal rise next.entries)
     (λ client inside none. ap (λ (line : Line). (kept_in line).number) (sym (next.others client 0 inside (omega arith) none)))
 
 -- the round that a side's next index word puts into force, where the spare record is what the round makes of the one in use

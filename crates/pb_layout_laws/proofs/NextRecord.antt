@@ -2,7 +2,7 @@
 use Rattle.std.proofs.Common.{◌≡◌, ◌≢◌, ◌⊎◌, ℕ, zero, suc, ◌+◌, ◌*◌, ◌/◌, ◌%◌, ◌<◌, ◌≤◌, List, [], ◌∷◌, ◌++◌, length, take, drop, refl, sym, ap, ◌∙◌, subst, inl, inr, arith}
 use Rattle.std.proofs.lemmas.Bool.{cases_eq}
 use Rattle.std.specs.List.{All}
-use Rattle.std.proofs.lemmas.List.{length-take, length-drop, length-append}
+use Rattle.std.proofs.lemmas.List.{length-take, length-drop, length-append, length-set}
 use Rattle.std.proofs.Math.Seq.{take-append_seam, drop-append_seam}
 use Rattle.std.proofs.lemmas.List.Elements.{All-head}
 use Rattle.pb_pmem.specs.declared.line.Line.{Line}
@@ -19,18 +19,19 @@ use Rattle.pb_object.specs.Standing.{Standing, side_count, rounds_of, keep, kept
 use Rattle.pb_layout.specs.ClientLine.{client_line_of, kept_in, IsKept}
 use Rattle.pb_layout.specs.Header.{record_length, slot_count, word}
 use Rattle.pb_layout.specs.LogHistory.{number_in}
-use Rattle.pb_layout.specs.NextRecord.{HasEntry, IsOfOther, IsNextRecord}
+use Rattle.pb_layout.specs.NextRecord.{HasEntry, IsOfOther, IsNextOf, IsNextRecord}
 use Rattle.pb_layout.specs.Record.{count_line_of, slot_line_at, client_line_at, kept_in_slots, number_sum, IsSlot, AreSlots, IsRecord}
 use Rattle.pb_layout.specs.Recovered.{Represents}
+use Rattle.pb_layout.specs.Shape.{IsHeader}
 use Rattle.pb_layout.specs.Region.{record_place}
-use Rattle.pb_layout.specs.Represents.{header_for, record_in_use, record_of_side, object_part, object_parts_by, object_parts, newest_of_two, kept_list_by, kept_list, number_at, AreApart, CellsRepresent, records_with, RegionParts}
+use Rattle.pb_layout.specs.Represents.{header_for, record_in_use, record_of_side, object_part, object_parts_by, object_parts, newest_of_two, kept_list_by, kept_list, number_at, AreApart, CellsRepresent, with_record, records_with, AreRecords, RegionParts}
 use Rattle.pb_layout.specs.declared.header.Header.{Header}
 use Rattle.pb_layout.proofs.ChangedRegion.{turn, with_here, with_other}
 use Rattle.pb_layout.proofs.Lines.{line_from_words}
-use Rattle.pb_layout.proofs.OneRecovery.{from_parts}
+use Rattle.pb_layout.proofs.OneRecovery.{from_parts, region_records}
 use Rattle.pb_layout.proofs.Records.{number_sum-none, number_sum-more}
 use Rattle.pb_layout.proofs.SlotLemmas.{Falling, kept_from-same, kept_from-shifted, newest-kept_from, slot_at_most, slots_fall, newest_of_two-newer_first, newest_of_two-newer_second, newest_of_two-take_first, newest_of_two-take_second, take-newest_of_two, newest_of_two-at_least_first, newest_of_two-at_least_second}
-use Rattle.pb_layout_laws.proofs.Rounds.{HasOwnEntry, entry_or_others, rise_from_zero, next_side, next_header, next_round_list, after_entries-kept, after_entries-kind_of, after_entries-size_of, after_entries-other}
+use Rattle.pb_layout_laws.proofs.Rounds.{HasOwnEntry, entry_or_others, rise_from_zero, next_side, next_header, next_round_list, next_rounds, next_rounds_other, after_entries-kept, after_entries-kind_of, after_entries-size_of, after_entries-other}
 
 -- where no client's newest number falls and one rises, the sum of a record's newest numbers does
 number_sum-at_most : (old new : List Line) (count : ℕ) → ((client : ℕ) → client < count → number_in old client ≤ number_in new client) → number_sum old count ≤ number_sum new count
@@ -210,10 +211,10 @@ queue_by_sides Queue side other inside below apart = refl
 parts_with : (c a : List Line) (s : Standing) (side : ℕ) (lines : List Line) → RegionParts c s → RegionParts a s → side < side_count s.kind → object_parts (header_for s) (records_with c s side lines) ≡ object_parts (header_for s) (records_with a s side lines)
 parts_with c a s side lines left right inside =
     object_parts-along s.kind (header_for s) (records_with c s side lines) (records_with a s side lines) (λ other below. elim (cases_eq other side) [
-      | inl e ↦ ap (object_part (header_for s)) (with_here c s side lines other e ∙ sym (with_here a s side lines other e))
+      | inl e ↦ ap (object_part (header_for s)) (with_here (record_of_side c s) side lines other e ∙ sym (with_here (record_of_side a s) side lines other e))
       | inr apart ↦
           let queue = queue_by_sides s.kind side other inside below apart in
-          ap (object_part (header_for s)) (with_other c s side lines other apart) ∙ (same_parts c a s queue left right other (omega (arith, ap side_count queue)) ∙ sym (ap (object_part (header_for s)) (with_other a s side lines other apart)))
+          ap (object_part (header_for s)) (with_other (record_of_side c s) side lines other apart) ∙ (same_parts c a s queue left right other (omega (arith, ap side_count queue)) ∙ sym (ap (object_part (header_for s)) (with_other (record_of_side a s) side lines other apart)))
     ])
 
 -- What a round does to the slots of a record
@@ -223,37 +224,37 @@ pub record IsShifted (before lines : List Line) (client : ℕ) (kept : Kept) : T
   pub newest_is : client_line_at lines client ≡ client_line_of kept
   pub shifted : (k : ℕ) → suc k < KEPT_REQUESTS → slot_line_at lines client (suc k) ≡ slot_line_at before client k
 
-abbrev pub Own : List Line → Standing → Round → List Line → ℕ → Type 0
-Own c s round lines client = HasOwnEntry (HasEntry (record_of_side c s round.side) lines) s round.side round.entries client
+abbrev pub Own : (ℕ → List Line) → Standing → Round → List Line → ℕ → Type 0
+Own records s round lines client = HasOwnEntry (HasEntry (records round.side) lines) s round.side round.entries client
 
-shift_of : (c : List Line) (s : Standing) (round : Round) (lines : List Line) (client : ℕ) (has : Own c s round lines client) → IsShifted (record_of_side c s round.side) lines client (kept_by has.entry)
-shift_of c s round lines client has = record {
+shift_of : (records : ℕ → List Line) (s : Standing) (round : Round) (lines : List Line) (client : ℕ) (has : Own records s round lines client) → IsShifted (records round.side) lines client (kept_by has.entry)
+shift_of records s round lines client has = record {
   newest_is = subst (λ (n : ℕ). client_line_at lines n ≡ client_line_of (kept_by has.entry)) has.own has.holds.newest;
-  shifted = λ k inside. subst (λ (n : ℕ). slot_line_at lines n (suc k) ≡ slot_line_at (record_of_side c s round.side) n k) has.own (has.holds.shifted k inside);
+  shifted = λ k inside. subst (λ (n : ℕ). slot_line_at lines n (suc k) ≡ slot_line_at (records round.side) n k) has.own (has.holds.shifted k inside);
 }
 
 -- what a round's new record has of a client: its entry in front, or else the slots that it had
-pub next_entry : (c : List Line) (s : Standing) (round : Round) (lines : List Line) → RegionParts c s → IsNextRecord c s round lines → (client : ℕ) → client < s.clients → Own c s round lines client ⊎ All (IsOfOther client) round.entries
-next_entry c s round lines stands next client inside =
-    entry_or_others (HasEntry (record_of_side c s round.side) lines) s round.side 0 round.entries client (omega (arith, stands.clients)) stands.kind next.legal.legal (rise_from_zero round.entries next.legal.rising) next.entries
+pub next_entry : (records : ℕ → List Line) (s : Standing) (round : Round) (lines : List Line) → AreRecords records s → IsNextOf records s round lines → (client : ℕ) → client < s.clients → Own records s round lines client ⊎ All (IsOfOther client) round.entries
+next_entry records s round lines stands next client inside =
+    entry_or_others (HasEntry (records round.side) lines) s round.side 0 round.entries client (omega (arith, stands.clients)) stands.kind next.legal.legal (rise_from_zero round.entries next.legal.rising) next.entries
 
 -- the numbers of a side's slots fall, and are at most the client's newest
-falls_in_use : (c : List Line) (s : Standing) (side client : ℕ) → RegionParts c s → side < side_count s.kind → client < s.clients → Falling (record_of_side c s side) (1 + KEPT_REQUESTS * client) KEPT_REQUESTS
-falls_in_use c s side client stands here inside = slots_fall (header_for s) side (record_of_side c s side) client (stands.records side here).slots inside
+falls_in_use : (records : ℕ → List Line) (s : Standing) (side client : ℕ) → AreRecords records s → side < side_count s.kind → client < s.clients → Falling (records side) (1 + KEPT_REQUESTS * client) KEPT_REQUESTS
+falls_in_use records s side client stands here inside = slots_fall (header_for s) side (records side) client (stands.own side here).slots inside
 
-newest_kept : (c : List Line) (s : Standing) (side client : ℕ) → RegionParts c s → side < side_count s.kind → client < s.clients → (newest (kept_in_slots (record_of_side c s side) client)).number ≤ (newest_of s client).number
-newest_kept c s side client stands here inside =
-    omega (arith, newest_at_most s.kind (record_of_side c s) side client here, ap (λ (list : List Kept). (newest list).number) (stands.kept client inside))
+newest_kept : (records : ℕ → List Line) (s : Standing) (side client : ℕ) → AreRecords records s → side < side_count s.kind → client < s.clients → (newest (kept_in_slots (records side) client)).number ≤ (newest_of s client).number
+newest_kept records s side client stands here inside =
+    omega (arith, newest_at_most s.kind (records) side client here, ap (λ (list : List Kept). (newest list).number) (stands.kept client inside))
 
-pub slot_number_kept : (c : List Line) (s : Standing) (side client k : ℕ) → RegionParts c s → side < side_count s.kind → client < s.clients → k < KEPT_REQUESTS → word (slot_line_at (record_of_side c s side) client k) 0 ≤ (newest_of s client).number
-slot_number_kept c s side client k stands here inside below =
-    let lines = record_of_side c s side in
-    let falling = falls_in_use c s side client stands here inside in
-    omega (arith, newest_kept c s side client stands here inside, newest-kept_from lines (1 + KEPT_REQUESTS * client) 7 falling, slot_at_most lines (1 + KEPT_REQUESTS * client) KEPT_REQUESTS k falling below, ap (λ (l : Line). word l 0) (slot_from lines client k))
+pub slot_number_kept : (records : ℕ → List Line) (s : Standing) (side client k : ℕ) → AreRecords records s → side < side_count s.kind → client < s.clients → k < KEPT_REQUESTS → word (slot_line_at (records side) client k) 0 ≤ (newest_of s client).number
+slot_number_kept records s side client k stands here inside below =
+    let lines = records side in
+    let falling = falls_in_use records s side client stands here inside in
+    omega (arith, newest_kept records s side client stands here inside, newest-kept_from lines (1 + KEPT_REQUESTS * client) 7 falling, slot_at_most lines (1 + KEPT_REQUESTS * client) KEPT_REQUESTS k falling below, ap (λ (l : Line). word l 0) (slot_from lines client k))
 
 -- a client's newest number in a record in use is at most that of its last request
-pub number_kept : (c : List Line) (s : Standing) (side client : ℕ) → RegionParts c s → side < side_count s.kind → client < s.clients → number_in (record_of_side c s side) client ≤ (newest_of s client).number
-number_kept c s side client stands here inside = slot_number_kept c s side client 0 stands here inside (omega arith)
+pub number_kept : (records : ℕ → List Line) (s : Standing) (side client : ℕ) → AreRecords records s → side < side_count s.kind → client < s.clients → number_in (records side) client ≤ (newest_of s client).number
+number_kept records s side client stands here inside = slot_number_kept records s side client 0 stands here inside (omega arith)
 
 some_entry : (s : Standing) (round : Round) → IsLegalRound s round → (client : ℕ) × (client < s.clients) × ¬ All (IsOfOther client) round.entries
 some_entry s round legal = go round.entries legal.some legal.legal
@@ -262,23 +263,23 @@ some_entry s round legal = go round.entries legal.some legal.legal
     go [] some are = absurd (some refl)
     go (entry ∷ entries) some are = (entry.client, are.0.client, λ others. All-head (IsOfOther entry.client) entry entries others refl)
 
-entry_number : (c : List Line) (s : Standing) (round : Round) (lines : List Line) (client : ℕ) (has : Own c s round lines client) → number_in lines client ≡ has.entry.number
-entry_number c s round lines client has = ap (λ (l : Line). word l 0) (shift_of c s round lines client has).newest_is
+entry_number : (records : ℕ → List Line) (s : Standing) (round : Round) (lines : List Line) (client : ℕ) (has : Own records s round lines client) → number_in lines client ≡ has.entry.number
+entry_number records s round lines client has = ap (λ (l : Line). word l 0) (shift_of records s round lines client has).newest_is
 
 -- no entry lowers its client's number on its side
-number_rises : (c : List Line) (s : Standing) (round : Round) (lines : List Line) → RegionParts c s → IsNextRecord c s round lines → (client : ℕ) → client < s.clients → number_in (record_of_side c s round.side) client ≤ number_in lines client
-number_rises c s round lines stands next client inside = go (next_entry c s round lines stands next client inside)
+number_rises : (records : ℕ → List Line) (s : Standing) (round : Round) (lines : List Line) → AreRecords records s → IsNextOf records s round lines → (client : ℕ) → client < s.clients → number_in (records round.side) client ≤ number_in lines client
+number_rises records s round lines stands next client inside = go (next_entry records s round lines stands next client inside)
   where
-    go : Own c s round lines client ⊎ All (IsOfOther client) round.entries → number_in (record_of_side c s round.side) client ≤ number_in lines client
-    go (inl has) = omega (arith, number_kept c s round.side client stands (next_side s round next.legal) inside, has.number, entry_number c s round lines client has)
+    go : Own records s round lines client ⊎ All (IsOfOther client) round.entries → number_in (records round.side) client ≤ number_in lines client
+    go (inl has) = omega (arith, number_kept records s round.side client stands (next_side s round next.legal) inside, has.number, entry_number records s round lines client has)
     go (inr others) = omega (arith, ap (λ (l : Line). word l 0) (next.others client 0 inside (omega arith) others))
 
 -- an entry raises it
-number_of_entry : (c : List Line) (s : Standing) (round : Round) (lines : List Line) → RegionParts c s → IsNextRecord c s round lines → (client : ℕ) → client < s.clients → ¬ All (IsOfOther client) round.entries → number_in (record_of_side c s round.side) client < number_in lines client
-number_of_entry c s round lines stands next client inside some = go (next_entry c s round lines stands next client inside)
+number_of_entry : (records : ℕ → List Line) (s : Standing) (round : Round) (lines : List Line) → AreRecords records s → IsNextOf records s round lines → (client : ℕ) → client < s.clients → ¬ All (IsOfOther client) round.entries → number_in (records round.side) client < number_in lines client
+number_of_entry records s round lines stands next client inside some = go (next_entry records s round lines stands next client inside)
   where
-    go : Own c s round lines client ⊎ All (IsOfOther client) round.entries → number_in (record_of_side c s round.side) client < number_in lines client
-    go (inl has) = omega (arith, number_kept c s round.side client stands (next_side s round next.legal) inside, has.number, entry_number c s round lines client has)
+    go : Own records s round lines client ⊎ All (IsOfOther client) round.entries → number_in (records round.side) client < number_in lines client
+    go (inl has) = omega (arith, number_kept records s round.side client stands (next_side s round next.legal) inside, has.number, entry_number records s round lines client has)
     go (inr others) = absurd (some others)
 
 -- a slot by its client and its place there
@@ -324,9 +325,9 @@ slot_of_other kind side before lines client (suc k) same slots below = record {
       omega (arith, here, last, less, ap (λ (n : ℕ). word (line_at before n) 0) at);
 }
 
-next_slots : (c : List Line) (s : Standing) (round : Round) (lines : List Line) → RegionParts c s → IsNextRecord c s round lines → AreSlots s.kind round.side lines (slot_count (header_for s))
-next_slots c s round lines stands next place inside =
-    subst (IsSlot s.kind round.side lines) (sym (place_is place)) (go (next_entry c s round lines stands next client within))
+next_slots : (records : ℕ → List Line) (s : Standing) (round : Round) (lines : List Line) → AreRecords records s → IsNextOf records s round lines → AreSlots s.kind round.side lines (slot_count (header_for s))
+next_slots records s round lines stands next place inside =
+    subst (IsSlot s.kind round.side lines) (sym (place_is place)) (go (next_entry records s round lines stands next client within))
   where
     client : ℕ
     client = place / KEPT_REQUESTS
@@ -338,27 +339,27 @@ next_slots c s round lines stands next place inside =
     here = next_side s round next.legal
 
     before : List Line
-    before = record_of_side c s round.side
+    before = records round.side
 
     slots : (j : ℕ) → j < KEPT_REQUESTS → IsSlot s.kind round.side before (KEPT_REQUESTS * client + j)
-    slots j below = (stands.records round.side here).slots (KEPT_REQUESTS * client + j) (omega (arith, within, below))
+    slots j below = (stands.own round.side here).slots (KEPT_REQUESTS * client + j) (omega (arith, within, below))
 
-    go : Own c s round lines client ⊎ All (IsOfOther client) round.entries → IsSlot s.kind round.side lines (KEPT_REQUESTS * client + place % KEPT_REQUESTS)
+    go : Own records s round lines client ⊎ All (IsOfOther client) round.entries → IsSlot s.kind round.side lines (KEPT_REQUESTS * client + place % KEPT_REQUESTS)
     go (inl has) =
-        slot_of_entry s.kind round.side before lines client (kept_by has.entry) (place % KEPT_REQUESTS) (shift_of c s round lines client has) (inr has.recorded) (omega (arith, number_kept c s round.side client stands here within, has.number)) slots (omega arith)
+        slot_of_entry s.kind round.side before lines client (kept_by has.entry) (place % KEPT_REQUESTS) (shift_of records s round lines client has) (inr has.recorded) (omega (arith, number_kept records s round.side client stands here within, has.number)) slots (omega arith)
     go (inr others) =
         slot_of_other s.kind round.side before lines client (place % KEPT_REQUESTS) (λ j below. next.others client j within below others) slots (omega arith)
 
 -- the new record is one of its side's next round
-pub next_own : (c : List Line) (s : Standing) (round : Round) (lines : List Line) → RegionParts c s → IsNextRecord c s round lines → IsRecord (header_for s) round.side (rounds_of s round.side + 1) lines
-next_own c s round lines stands next =
+pub next_own : (records : ℕ → List Line) (s : Standing) (round : Round) (lines : List Line) → AreRecords records s → IsNextOf records s round lines → IsRecord (header_for s) round.side (rounds_of s round.side + 1) lines
+next_own records s round lines stands next =
     let here = next_side s round next.legal in
     let one = some_entry s round next.legal in
-    let before = stands.records round.side here in
-    let more = number_sum-rises (record_of_side c s round.side) lines one.0 s.clients one.1 (number_rises c s round lines stands next) (number_of_entry c s round lines stands next one.0 one.1 one.2) in
+    let before = stands.own round.side here in
+    let more = number_sum-rises (records round.side) lines one.0 s.clients one.1 (number_rises records s round lines stands next) (number_of_entry records s round lines stands next one.0 one.1 one.2) in
     record {
       carries = next.carries;
-      slots = next_slots c s round lines stands next;
+      slots = next_slots records s round lines stands next;
       rounds = omega (arith, before.rounds, more);
     }
 
@@ -373,41 +374,41 @@ pub record IsSwitched (a b : List Line) (s : Standing) (round : Round) (lines : 
   pub cells : CellsRepresent b (header_for s) (after_round s round).state
 
 -- the kept requests in a client's slots of the new record
-slots_in_front : (c : List Line) (s : Standing) (round : Round) (lines : List Line) → RegionParts c s → round.side < side_count s.kind → (client : ℕ) → client < s.clients → (has : Own c s round lines client) → kept_in_slots lines client ≡ keep (kept_by has.entry) (kept_in_slots (record_of_side c s round.side) client)
-slots_in_front c s round lines stands here client inside has =
-    let shift = shift_of c s round lines client has in
-    let before = record_of_side c s round.side in
-    kept_from-shifted lines before (1 + KEPT_REQUESTS * client) 7 (kept_by has.entry) (λ e. absurd (omega (arith, has.number, e))) (first_slot lines client ∙ shift.newest_is) (λ k below. slot_from lines client (suc k) ∙ (shift.shifted k below ∙ sym (slot_from before client k))) (falls_in_use c s round.side client stands here inside)
+slots_in_front : (records : ℕ → List Line) (s : Standing) (round : Round) (lines : List Line) → AreRecords records s → round.side < side_count s.kind → (client : ℕ) → client < s.clients → (has : Own records s round lines client) → kept_in_slots lines client ≡ keep (kept_by has.entry) (kept_in_slots (records round.side) client)
+slots_in_front records s round lines stands here client inside has =
+    let shift = shift_of records s round lines client has in
+    let before = records round.side in
+    kept_from-shifted lines before (1 + KEPT_REQUESTS * client) 7 (kept_by has.entry) (λ e. absurd (omega (arith, has.number, e))) (first_slot lines client ∙ shift.newest_is) (λ k below. slot_from lines client (suc k) ∙ (shift.shifted k below ∙ sym (slot_from before client k))) (falls_in_use records s round.side client stands here inside)
 
 slots_of_other : (before lines : List Line) (client : ℕ) → ((k : ℕ) → k < KEPT_REQUESTS → slot_line_at lines client k ≡ slot_line_at before client k) → kept_in_slots lines client ≡ kept_in_slots before client
 slots_of_other before lines client same =
     kept_from-same lines before (1 + KEPT_REQUESTS * client) (1 + KEPT_REQUESTS * client) KEPT_REQUESTS (λ k below. slot_from lines client k ∙ (same k below ∙ sym (slot_from before client k)))
 
-next_list : (c : List Line) (s : Standing) (round : Round) (lines : List Line) → RegionParts c s → IsNextRecord c s round lines → (client : ℕ) → client < s.clients → kept_list_of (after_round s round) client ≡ kept_list (header_for s) (records_with c s round.side lines) client
-next_list c s round lines stands next client inside = go (next_entry c s round lines stands next client inside)
+pub next_list : (records : ℕ → List Line) (s : Standing) (round : Round) (lines : List Line) → AreRecords records s → IsNextOf records s round lines → (client : ℕ) → client < s.clients → kept_list_of (after_round s round) client ≡ kept_list (header_for s) (with_record records round.side lines) client
+next_list records s round lines stands next client inside = go (next_entry records s round lines stands next client inside)
   where
     here : round.side < side_count s.kind
     here = next_side s round next.legal
 
-    records : ℕ → List Line
-    records = records_with c s round.side lines
+    after : ℕ → List Line
+    after = with_record records round.side lines
 
-    own : {x : ℕ} → x ≡ round.side → kept_in_slots (records x) client ≡ kept_in_slots lines client
-    own {x} e = ap (λ (ls : List Line). kept_in_slots ls client) (with_here c s round.side lines x e)
+    own : {x : ℕ} → x ≡ round.side → kept_in_slots (after x) client ≡ kept_in_slots lines client
+    own {x} e = ap (λ (ls : List Line). kept_in_slots ls client) (with_here records round.side lines x e)
 
-    beside : (x : ℕ) → x ≢ round.side → kept_in_slots (records x) client ≡ kept_in_slots (record_of_side c s x) client
-    beside x apart = ap (λ (ls : List Line). kept_in_slots ls client) (with_other c s round.side lines x apart)
+    beside : (x : ℕ) → x ≢ round.side → kept_in_slots (after x) client ≡ kept_in_slots (records x) client
+    beside x apart = ap (λ (ls : List Line). kept_in_slots ls client) (with_other records round.side lines x apart)
 
-    go : Own c s round lines client ⊎ All (IsOfOther client) round.entries → kept_list_of (after_round s round) client ≡ kept_list (header_for s) records client
+    go : Own records s round lines client ⊎ All (IsOfOther client) round.entries → kept_list_of (after_round s round) client ≡ kept_list (header_for s) after client
     go (inl has) =
-        has.kept ∙ (ap (keep (kept_by has.entry)) (stands.kept client inside) ∙ sym (list_in_front s.kind (record_of_side c s) records round.side client (kept_by has.entry) here (record {
-          here = own refl ∙ slots_in_front c s round lines stands here client inside has;
+        has.kept ∙ (ap (keep (kept_by has.entry)) (stands.kept client inside) ∙ sym (list_in_front s.kind records after round.side client (kept_by has.entry) here (record {
+          here = own refl ∙ slots_in_front records s round lines stands here client inside has;
           others = λ x below apart. beside x apart;
-          newer = λ x below. omega (arith, newest_kept c s x client stands below inside, has.number);
+          newer = λ x below. omega (arith, newest_kept records s x client stands below inside, has.number);
         })))
     go (inr others) =
-        after_entries-other s round.entries client others ∙ (stands.kept client inside ∙ sym (list_same s.kind records (record_of_side c s) client (λ x below. elim (cases_eq x round.side) [
-          | inl e ↦ own e ∙ (slots_of_other (record_of_side c s round.side) lines client (λ k few. next.others client k inside few others) ∙ ap (λ (n : ℕ). kept_in_slots (record_of_side c s n) client) (sym e))
+        after_entries-other s round.entries client others ∙ (stands.kept client inside ∙ sym (list_same s.kind after records client (λ x below. elim (cases_eq x round.side) [
+          | inl e ↦ own e ∙ (slots_of_other (records round.side) lines client (λ k few. next.others client k inside few others) ∙ ap (λ (n : ℕ). kept_in_slots (records n) client) (sym e))
           | inr apart ↦ beside x apart
         ])))
 
@@ -458,11 +459,11 @@ apart_in_front before records (suc zero) client kept inside shift others newer a
     apart_second before records client kept shift (others 0 (omega arith) (λ e. absurd (omega (arith, e)))) (λ k below. newer 0 k (omega arith) below) apart
 apart_in_front before records (suc (suc side)) client kept inside shift others newer apart = absurd (omega arith)
 
-next_apart : (c : List Line) (s : Standing) (round : Round) (lines : List Line) → RegionParts c s → IsNextRecord c s round lines → AreApart (header_for s) (records_with c s round.side lines)
-next_apart c s round lines stands next queue = are_apart (header_for s) records each queue
+pub next_apart : (records : ℕ → List Line) (s : Standing) (round : Round) (lines : List Line) → AreRecords records s → IsNextOf records s round lines → AreApart (header_for s) (with_record records round.side lines)
+next_apart records s round lines stands next queue = are_apart (header_for s) after each queue
   where
-    records : ℕ → List Line
-    records = records_with c s round.side lines
+    after : ℕ → List Line
+    after = with_record records round.side lines
 
     two : side_count s.kind ≡ 2
     two = ap side_count queue
@@ -470,20 +471,49 @@ next_apart c s round lines stands next queue = are_apart (header_for s) records 
     here : round.side < side_count s.kind
     here = next_side s round next.legal
 
-    each : (client : ℕ) → client < s.clients → IsApartAt records client
-    each client inside = go (next_entry c s round lines stands next client inside)
+    each : (client : ℕ) → client < s.clients → IsApartAt after client
+    each client inside = go (next_entry records s round lines stands next client inside)
       where
-        before : IsApartAt (record_of_side c s) client
-        before = apart_at (header_for s) (record_of_side c s) client queue inside stands.apart
+        before : IsApartAt records client
+        before = apart_at (header_for s) records client queue inside stands.apart
 
-        go : Own c s round lines client ⊎ All (IsOfOther client) round.entries → IsApartAt records client
+        go : Own records s round lines client ⊎ All (IsOfOther client) round.entries → IsApartAt after client
         go (inl has) =
-            apart_in_front (record_of_side c s) records round.side client (kept_by has.entry) (omega (arith, here, two)) (subst (λ (ls : List Line). IsShifted (record_of_side c s round.side) ls client (kept_by has.entry)) (sym (with_here c s round.side lines round.side refl)) (shift_of c s round lines client has)) (λ x below apart. with_other c s round.side lines x apart) (λ x k below few. omega (arith, slot_number_kept c s x client k stands (omega (arith, two)) inside few, has.number)) before
+            apart_in_front records after round.side client (kept_by has.entry) (omega (arith, here, two)) (subst (λ (ls : List Line). IsShifted (records round.side) ls client (kept_by has.entry)) (sym (with_here records round.side lines round.side refl)) (shift_of records s round lines client has)) (λ x below apart. with_other records round.side lines x apart) (λ x k below few. omega (arith, slot_number_kept records s x client k stands (omega (arith, two)) inside few, has.number)) before
         go (inr others) =
-            apart_same (record_of_side c s) records client (λ x k below few. elim (cases_eq x round.side) [
-              | inl e ↦ ap (λ (ls : List Line). slot_line_at ls client k) (with_here c s round.side lines x e) ∙ (next.others client k inside few others ∙ ap (λ (n : ℕ). slot_line_at (record_of_side c s n) client k) (sym e))
-              | inr apart ↦ ap (λ (ls : List Line). slot_line_at ls client k) (with_other c s round.side lines x apart)
+            apart_same records after client (λ x k below few. elim (cases_eq x round.side) [
+              | inl e ↦ ap (λ (ls : List Line). slot_line_at ls client k) (with_here records round.side lines x e) ∙ (next.others client k inside few others ∙ ap (λ (n : ℕ). slot_line_at (records n) client k) (sym e))
+              | inr apart ↦ ap (λ (ls : List Line). slot_line_at ls client k) (with_other records round.side lines x apart)
             ]) before
+
+-- Records that say a standing say the one after the round, where its record takes the place of the one before
+
+round_at_side : (s : Standing) (round : Round) (x : ℕ) → x ≡ round.side → IsLegalRound s round → length s.rounds ≡ side_count s.kind → rounds_of s round.side + 1 ≡ rounds_of (after_round s round) x
+round_at_side s round x e legal sides = sym (ap (rounds_of (after_round s round)) e ∙ next_rounds s round legal sides)
+
+own_after : (head header : Header) (first second one other : ℕ) (before lines : List Line) → head ≡ header → first ≡ second → one ≡ other → before ≡ lines → IsRecord head first one before → IsRecord header second other lines
+own_after head header first second one other before lines heads sides rounds same own =
+    subst (λ (h : Header). IsRecord h second other lines) heads (subst (λ (n : ℕ). IsRecord head n other lines) sides (subst (λ (n : ℕ). IsRecord head first n lines) rounds (subst (IsRecord head first one) same own)))
+
+pub next_records : (records : ℕ → List Line) (s : Standing) (round : Round) (lines : List Line) → AreRecords records s → IsNextOf records s round lines → AreRecords (with_record records round.side lines) (after_round s round)
+next_records records s round lines stands next =
+    let same = next_header s round in
+    let kind = ap (λ (h : Header). h.kind) same in
+    let after : ℕ → List Line = with_record records round.side lines in
+    record {
+      valid = subst (λ (h : Header). IsHeader h) (sym same) stands.valid;
+      sides = ap length (next_round_list s round) ∙ (length-set s.rounds round.side (rounds_of s round.side + 1) ∙ (stands.sides ∙ ap side_count (sym kind)));
+      own = λ x below. elim (cases_eq x round.side) [
+        | inl e ↦ own_after (header_for s) (header_for (after_round s round)) round.side x (rounds_of s round.side + 1) (rounds_of (after_round s round) x) lines (after x) (sym same) (sym e) (round_at_side s round x e next.legal stands.sides) (sym (with_here records round.side lines x e)) (next_own records s round lines stands next)
+        | inr apart ↦ own_after (header_for s) (header_for (after_round s round)) x x (rounds_of s x) (rounds_of (after_round s round) x) (records x) (after x) (sym same) refl (sym (next_rounds_other s round x apart)) (sym (with_other records round.side lines x apart)) (stands.own x (omega (arith, below, ap side_count kind)))
+      ];
+      kind = after_entries-kind_of s round.entries ∙ (stands.kind ∙ sym kind);
+      size = after_entries-size_of s round.entries ∙ (stands.size ∙ sym (ap (λ (h : Header). h.size) same));
+      state = subst (λ (h : Header). LinesRepresent (object_parts h after) (after_round s round).state) (sym same) next.state;
+      clients = after_entries-kept s round.entries ∙ (stands.clients ∙ sym (ap (λ (h : Header). h.clients) same));
+      apart = subst (λ (h : Header). AreApart h after) (sym same) (next_apart records s round lines stands next);
+      kept = λ client inside. next_list records s round lines stands next client (omega (arith, inside, ap (λ (h : Header). h.clients) same)) ∙ ap (λ (h : Header). kept_list h after client) (sym same);
+    }
 
 -- what a round makes of a record in use it makes of it in each region that represents the same and has that record in use
 pub next_record_along : (c m : List Line) (s : Standing) (round : Round) (lines : List Line) → RegionParts c s → RegionParts m s → record_of_side m s round.side ≡ record_of_side c s round.side → IsNextRecord c s round lines → IsNextRecord m s round lines
@@ -500,6 +530,7 @@ next_record_along c m s round lines left right same next = record {
 pub next_stands : (c b : List Line) (s : Standing) (round : Round) (lines : List Line) → RegionParts c s → IsNextRecord c s round lines → length b ≡ LINES → IsSwitched c b s round lines → Represents b (after_round s round)
 next_stands c b s round lines stands next whole switched =
     let same = next_header s round in
+    let records = region_records c s stands in
     from_parts b (after_round s round) whole (turn c b s (after_round s round) round.side lines stands (record {
       here = next_side s round next.legal;
       same = same;
@@ -509,12 +540,12 @@ next_stands c b s round lines stands next whole switched =
       others = switched.others;
       spare = switched.spare;
       others_in_use = switched.others_in_use;
-      own = next_own c s round lines stands next;
+      own = next_own (record_of_side c s) s round lines records next;
       kind = after_entries-kind_of s round.entries ∙ (stands.kind ∙ sym (ap (λ (h : Header). h.kind) same));
       size = after_entries-size_of s round.entries ∙ (stands.size ∙ sym (ap (λ (h : Header). h.size) same));
       state = next.state;
       cells = switched.cells;
       clients = after_entries-kept s round.entries ∙ (stands.clients ∙ sym (ap (λ (h : Header). h.clients) same));
-      apart = next_apart c s round lines stands next;
-      kept = λ client inside. next_list c s round lines stands next client (omega (arith, inside, ap (λ (h : Header). h.clients) same));
+      apart = next_apart (record_of_side c s) s round lines records next;
+      kept = λ client inside. next_list (record_of_side c s) s round lines records next client (omega (arith, inside, ap (λ (h : Header). h.clients) same));
     }))

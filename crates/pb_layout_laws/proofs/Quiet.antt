@@ -17,7 +17,7 @@ use Rattle.pb_layout.specs.declared.header.TheConstants.{MAGIC}
 use Rattle.pb_layout.proofs.LogHistories.{history_after-none, history_after-first}
 use Rattle.pb_pmem.specs.Device.{MayAdd}
 use Rattle.pb_pmem.specs.Operations.{IsFailedPrefix}
-use Rattle.pb_layout_laws.proofs.CutOff.{cut_off_keeps}
+use Rattle.pb_layout_laws.proofs.CutOff.{added_has, cut_off_keeps}
 
 -- One more operation of a log, in its order
 
@@ -130,18 +130,6 @@ quiet-bare {base} log [] quiet bounds =
 quiet-bare {base} log (op ∷ ops) quiet bounds =
     subst (λ (l : List LogOp). Bounds base (reverse l) Bare Bare Bare) (append_assoc log (op ∷ []) ops) (quiet-bare (log ++ op ∷ []) ops (All-tail IsQuiet op ops quiet) (quiet_op-bare log op (All-head IsQuiet op ops quiet) bounds))
 
--- what a call that fails adds for a quiet operation is quiet
-added-quiet : (op added : LogOp) → IsQuiet op → MayAdd op added → IsQuiet added
-added-quiet (Whole line to) (Whole at other) quiet may = λ e. quiet (sym may ∙ e)
-added-quiet (Whole line to) (Word at word other) quiet may = absurd may
-added-quiet (Whole line to) (Back first count) quiet may = absurd may
-added-quiet (Whole line to) Fence quiet may = absurd may
-added-quiet (Whole line to) Sync quiet may = absurd may
-added-quiet (Word line word to) added quiet may = subst IsQuiet (sym may) quiet
-added-quiet (Back first count) added quiet may = subst IsQuiet (sym may) tt
-added-quiet Fence added quiet may = subst IsQuiet (sym may) tt
-added-quiet Sync added quiet may = absurd quiet
-
 -- quiet operations that are cut off are quiet
 pub cut_off-quiet : (all ops : List LogOp) → All IsQuiet all → IsFailedPrefix all ops → All IsQuiet ops
-cut_off-quiet all ops quiet cut = cut_off_keeps IsQuiet added-quiet all ops quiet cut
+cut_off-quiet all ops quiet cut = cut_off_keeps IsQuiet (added_has IsQuiet (λ line to other quiet. quiet) (λ none. absurd none)) all ops quiet cut

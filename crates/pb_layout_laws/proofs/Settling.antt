@@ -35,6 +35,7 @@ use Rattle.pb_layout.specs.RegionOps.{settle_ops}
 use Rattle.pb_layout.specs.Exits.{ImagesAlwaysRepresent, IsExit}
 use Rattle.pb_layout.proofs.OneRecovery.{parts, has_region, represents_one}
 use Rattle.pb_layout_laws.proofs.Compose.{stands_for_one}
+use Rattle.pb_layout_laws.proofs.CutOff.{added_has}
 use Rattle.pb_layout_laws.proofs.Prefixes.{IsAsAtStart, IsCoveredPrefix, covers_by_prefixes}
 use Rattle.pb_layout_laws.proofs.Rounds.{next_side, next_rounds}
 use Rattle.pb_layout_laws.proofs.OneUnsealed.{covered_stepwise}
@@ -333,22 +334,10 @@ cut_before_sync (op ∷ body) (first ∷ prefix) rest failed none_yet whole =
     )
 
 added_settles : (s : Standing) (failed op : LogOp) → Settles s failed → MayAdd failed op → Settles s op
-added_settles s (Whole line to) op settles may = absurd settles
-added_settles s (Word line place to) op settles may = subst (Settles s) (sym may) settles
-added_settles s (Back first count) op settles may = subst (Settles s) (sym may) settles
-added_settles s Fence op settles may = subst (Settles s) (sym may) settles
-added_settles s Sync (Whole line to) settles may = absurd may
-added_settles s Sync (Word line place to) settles may = absurd may
-added_settles s Sync (Back first count) settles may = absurd may
-added_settles s Sync Fence settles may = tt
-added_settles s Sync Sync settles may = tt
+added_settles s = added_has (Settles s) (λ line to other settles. absurd settles) (λ _. tt)
 
-added_no_sync : (s : Standing) (failed op : LogOp) → Settles s failed → IsNoSync failed → MayAdd failed op → IsNoSync op
-added_no_sync s (Whole line to) op settles other may = absurd settles
-added_no_sync s (Word line place to) op settles other may = ap is_sync may
-added_no_sync s (Back first count) op settles other may = ap is_sync may
-added_no_sync s Fence op settles other may = ap is_sync may
-added_no_sync s Sync op settles other may = absurd (false≢true (sym other))
+added_no_sync : (failed op : LogOp) → IsNoSync failed → MayAdd failed op → IsNoSync op
+added_no_sync = added_has IsNoSync (λ line to other no_sync. refl) (λ no_sync. absurd (false≢true (sym no_sync)))
 
 -- what a failed sync may add
 added_mark : (op : LogOp) → MayAdd Sync op → IsNoSync op ⊎ (op ≡ Sync)
@@ -375,7 +364,7 @@ cut_settling s ops cut = go cut.added
 
     with_op : (op : LogOp) → MayAdd cut.failed op → All IsNoSync (cut.prefix ++ op ∷ []) ⊎ (cut.prefix ++ op ∷ [] ≡ settling_of s)
     with_op op may = elim place.1 [
-      | inl other ↦ inl (All-push IsNoSync cut.prefix op place.0 (added_no_sync s cut.failed op failed_settles other may))
+      | inl other ↦ inl (All-push IsNoSync cut.prefix op place.0 (added_no_sync cut.failed op other may))
       | inr last ↦ elim (added_mark op (subst (λ (l : LogOp). MayAdd l op) last.0 may)) [
         | inl other ↦ inl (All-push IsNoSync cut.prefix op place.0 other)
         | inr sync ↦ inr ((λ i. last.1 i ++ sync i ∷ []) ∙ sym (settling_whole s))

@@ -1,5 +1,5 @@
 -- A store before its index word: the images stay what they were, and in the end the spare record is there.
-use Rattle.std.proofs.Common.{◌≡◌, ℕ, suc, ◌+◌, ◌-◌, ◌%◌, ◌<◌, ◌≤◌, ◌⊎◌, List, [], ◌∷◌, ◌++◌, length, reverse, ap, subst, sym, refl, ◌∙◌, inl, inr, arith}
+use Rattle.std.proofs.Common.{◌≡◌, ℕ, ◌+◌, ◌-◌, ◌%◌, ◌<◌, ◌≤◌, ◌⊎◌, List, [], ◌∷◌, ◌++◌, length, reverse, ap, subst, sym, refl, ◌∙◌, inl, inr, arith}
 use Rattle.std.specs.List.{All}
 use Rattle.std.proofs.lemmas.List.{append_assoc}
 use Rattle.std.proofs.lemmas.List.Elements.{All-head, All-tail, All-nil, All-cons, All-append}
@@ -36,18 +36,13 @@ use Rattle.pb_layout_laws.proofs.Entering.{Implies}
 use Rattle.pb_layout_laws.proofs.Frame.{represents_by_words}
 use Rattle.pb_layout_laws.proofs.Geometry.{spare_not_in_use, cell_below, record_after_cells, parity-lt}
 use Rattle.pb_layout.proofs.OneRecovery.{parts, record_fits}
+use Rattle.pb_layout.proofs.SparseWrites.{quiet_writes}
 use Rattle.pb_layout_laws.proofs.Images.{image_of, length-image_of, word_of-image_of, line_at-image_of, line_in-same}
-use Rattle.pb_pmem.proofs.WrittenLines.{writes_from-none, writes_from-more, line_at-writes_here}
+use Rattle.pb_pmem.proofs.WrittenLines.{line_at-writes_here}
 
 -- Operations that stage a record, and don't wait
 
-pub quiet_writes : (first count at : ℕ) (lines : List Line) → first ≤ at → at + length lines ≤ first + count → All (IsStagingOp first count) (writes_from at lines)
-quiet_writes first count at [] low high =
-    subst (λ (l : List LogOp). All (IsStagingOp first count) l) (sym (writes_from-none at)) (All-nil (IsStagingOp first count))
-quiet_writes first count at (line ∷ lines) low high =
-    subst (λ (l : List LogOp). All (IsStagingOp first count) l) (sym (writes_from-more at line lines)) (All-cons (IsStagingOp first count) (Whole at line) (writes_from (suc at) lines) (low, omega arith) (quiet_writes first count (suc at) lines (omega arith) (omega arith)))
-
--- .. and with a `Back` and a fence after them
+-- writes, and a `Back` and a fence after them
 pub quiet_fenced : (first count : ℕ) (writes : List LogOp) → All (IsStagingOp first count) writes → All (IsStagingOp first count) (fenced_ops writes first count)
 quiet_fenced first count writes quiet =
     All-append (IsStagingOp first count) writes (Back first count ∷ Fence ∷ []) quiet (All-cons (IsStagingOp first count) (Back first count) (Fence ∷ []) tt (All-cons (IsStagingOp first count) Fence [] tt (All-nil (IsStagingOp first count))))

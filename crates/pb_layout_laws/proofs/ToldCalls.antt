@@ -24,8 +24,11 @@ use Rattle.pb_layout_laws.proofs.ReadyWithOne.{only_member}
 pub told_exit : {tale : Tale} {new : Device} {s : Standing} {history : List LoggedRound} {members : List (Option Standing)} (ops : List LogOp) → new.told ≡ Some (with_ops ops tale) → IsExit tale.base tale.log ops s history members → IsCoveredExit tale new s history members
 told_exit ops told exit = record { ops = ops; told = told; exit = exit }
 
-if_told : (P : Tale → Type 0) (told : Option Tale) (tale : Tale) → told ≡ Some tale → P tale → IfSome told P
+pub if_told : (P : Tale → Type 0) (told : Option Tale) (tale : Tale) → told ≡ Some tale → P tale → IfSome told P
 if_told P told tale is holds = subst (λ (o : Option Tale). IfSome o P) (sym is) holds
+
+pub from_told : (P : Tale → Type 0) (told : Option Tale) (tale : Tale) → told ≡ Some tale → IfSome told P → P tale
+from_told P told tale is holds = subst (λ (o : Option Tale). IfSome o P) is holds
 
 -- a call that left a round in doubt
 pub told_doubt : {tale : Tale} {new : Device} {s : Standing} {round : Round} (ops : List LogOp) → new.told ≡ Some (with_ops ops tale) → IsExitInDoubt tale.base tale.log ops s round → IsInDoubt tale new s round

@@ -15,7 +15,7 @@ use Rattle.pb_layout.specs.InUse.{IsInUse, IsOutside}
 use Rattle.pb_layout.specs.LogHistory.{LoggedRound, raises_index, recorded_by_op, history_after}
 use Rattle.pb_layout.specs.Ready.{IsReady}
 use Rattle.pb_layout.proofs.LogHistories.{history_after-none, history_after-first}
-use Rattle.pb_layout_laws.proofs.CutOff.{cut_off_keeps}
+use Rattle.pb_layout_laws.proofs.CutOff.{added_has, cut_off_keeps}
 use Rattle.pb_layout_laws.proofs.Frame.{unused_all}
 use Rattle.pb_layout_laws.proofs.OneUnsealed.{covered_stepwise}
 use Rattle.pb_layout_laws.proofs.Prefixes.{IsCoveredPrefix, covers_by_prefixes}
@@ -63,24 +63,9 @@ writing_unused base log ops s ready outside =
       ready = one_from_images base (log ++ ops) s after;
     }
 
-outside_added : (s : Standing) (failed op : LogOp) → IsOutside s failed → MayAdd failed op → IsOutside s op
-outside_added s (Whole line to) (Whole at other) outside may = subst (λ (n : ℕ). ¬ IsInUse s n) (sym may) outside
-outside_added s (Whole line to) (Word at word other) outside may = absurd may
-outside_added s (Whole line to) (Back first count) outside may = absurd may
-outside_added s (Whole line to) Fence outside may = absurd may
-outside_added s (Whole line to) Sync outside may = absurd may
-outside_added s (Word line word to) op outside may = subst (IsOutside s) (sym may) outside
-outside_added s (Back first count) op outside may = subst (IsOutside s) (sym may) tt
-outside_added s Fence op outside may = subst (IsOutside s) (sym may) tt
-outside_added s Sync (Whole at other) outside may = absurd may
-outside_added s Sync (Word at word other) outside may = absurd may
-outside_added s Sync (Back first count) outside may = absurd may
-outside_added s Sync Fence outside may = tt
-outside_added s Sync Sync outside may = tt
-
 -- so it is where they are cut off
 pub unused_cut_off : (s : Standing) (all ops : List LogOp) → All (IsOutside s) all → IsFailedPrefix all ops → All (IsOutside s) ops
-unused_cut_off s all ops outside cut = cut_off_keeps (IsOutside s) (outside_added s) all ops outside cut
+unused_cut_off s all ops outside cut = cut_off_keeps (IsOutside s) (added_has (IsOutside s) (λ line to other outside. outside) (λ _. tt)) all ops outside cut
 
 pub writing_unused_failing : (base : List Line) (log all ops : List LogOp) (s : Standing) → IsReady base log (Some s ∷ []) → All (IsOutside s) all → IsFailedPrefix all ops → IsExit base log ops s [] (Some s ∷ [])
 writing_unused_failing base log all ops s ready outside cut =

@@ -5,6 +5,3 @@ mod lines;
 mod reg_map;
 
 pub use reg_map::RegMap;
-
-#[cfg(test)]
-mod tests;

@@ -1,12 +1,12 @@
 -- What is kept of a client after a history.
-use Rattle.std.proofs.Common.{◌≡◌, ◌≢◌, ℕ, ◌<◌, ◌≤◌, List, [], ◌∷◌, length, take, ap, sym, subst, ◌∙◌, inl, inr, arith}
+use Rattle.std.proofs.Common.{◌≡◌, ◌≢◌, ℕ, ◌<◌, List, [], ◌∷◌, length, take, ap, sym, ◌∙◌, inl, inr, arith}
 use Rattle.std.specs.Prelude.{◌==◌, if◌then◌else◌}
 use Rattle.std.proofs.lemmas.Bool.{cases_eq}
 use Rattle.std.proofs.lemmas.Bool.Decides.{nat_tests}
 use Rattle.std.proofs.lemmas.List.{length-set, get_or-set_same, get_or-set_other, take_all, take-take}
 use Rattle.pb_object.specs.declared.request.Kept.{Kept}
 use Rattle.pb_object.specs.declared.request.TheConstants.{KEPT_REQUESTS}
-use Rattle.pb_object.specs.History.{Entry, Round, History, kept_by, after_entry, after_entries, after_round, state_after}
+use Rattle.pb_object.specs.History.{Entry, History, kept_by, after_entry, after_entries, after_round, state_after}
 use Rattle.pb_object.specs.Laws.{requests_in, requests_of, KeepsTheLastEight}
 use Rattle.pb_object.specs.Standing.{Standing, keep, kept_list_of}
 

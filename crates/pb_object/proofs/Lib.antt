@@ -1,4 +1,6 @@
+pub mod CodeLemmas
 pub mod Numbers
+pub mod KeptLists
 mod KeptRequests
 mod LawLemmas
 pub mod ObjectLinesLemmas

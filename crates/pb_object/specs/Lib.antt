@@ -2,6 +2,7 @@ pub mod Codes
 pub mod Heap
 pub mod History
 pub mod ItemLines
+pub mod KeptLists
 pub mod Laws
 pub mod Map
 pub mod MapLines

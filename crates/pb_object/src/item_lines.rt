@@ -20,7 +20,8 @@ pub trait HoldsItems {
         ensures { IsTrue result ↔ IsPlace from.now place };
 
     /// The kind's lines are allowed where these places are.
-    ghost by_places: { (size : ℕ) (lines : List Line) (line : ℕ) → IsAllowedLine kind size lines line ↔ IsItemLine IsPlace size lines line };
+    ghost by_places: { (size : ℕ) (lines : List Line) (line : ℕ)
+        → IsAllowedLine kind size lines line ↔ IsItemLine IsPlace size lines line };
 }
 
 /// Reads the items that the lines hold into the first places and answers how many there are,

@@ -1,12 +1,14 @@
 //! What the objects promise in their own words: each law is the contract of a function that does nothing.
-ghost use Rattle.std.specs.Prelude.{◌≡◌, ◌+◌, ◌<◌, ◌≤◌, length, Some};
+ghost use Rattle.std.specs.Prelude.{◌≡◌, ℕ, ◌+◌, ◌<◌, ◌≤◌, length, Some};
 ghost use Rattle.std.specs.List.{All};
 ghost use Rattle.pb_object.specs.declared.codes.Action.TheVariants.{Put, Push, Pop, RemoveMin, QueuePut, QueueTake};
+ghost use Rattle.pb_object.specs.declared.kind.Kind.{Kind};
 ghost use Rattle.pb_object.specs.Codes.{action_of};
-ghost use Rattle.pb_object.specs.History.{History};
+ghost use Rattle.pb_object.specs.History.{Round, History, IsLegalRound, IsLegal, after_round, state_after};
+ghost use Rattle.pb_object.specs.KeptLists.{HasKeptLists, HasNewestFirst};
 ghost use Rattle.pb_object.specs.Laws.{PutChangesItsRegister, PopUndoesPush, RemoveMinsRise, ItemsComeOutInOrder, KeepsTheLastEight};
 ghost use Rattle.pb_object.specs.Queue.{tail_of, last_position};
-ghost use Rattle.pb_object.specs.Standing.{Standing};
+ghost use Rattle.pb_object.specs.Standing.{Standing, empty_standing};
 
 use crate::map::Register;
 use crate::queue::PlainQueue;
@@ -45,4 +47,17 @@ pub fn items_come_out_in_order(size: u32, queue: &PlainQueue, puts: &[Op], take:
 /// those before it.
 pub fn the_last_eight_are_kept()
     ensures { (s : Standing) (history : History) → KeepsTheLastEight s history }
+{}
+
+/// In a region in which nothing was asked yet what is kept of each client is a kept list: at most eight requests, whose numbers fall. It
+/// stays one with each legal round, and so with a legal history.
+pub fn kept_lists_stay_sound()
+    ensures fresh { (kind : Kind) (clients size : ℕ) → HasKeptLists (empty_standing kind clients size) }
+    ensures round { (s : Standing) (round : Round) → HasKeptLists s → IsLegalRound s round → HasKeptLists (after_round s round) }
+    ensures history { (s : Standing) (history : History) → HasKeptLists s → IsLegal s history → HasKeptLists (state_after s history) }
+{}
+
+/// The first request of a kept list is the client's newest.
+pub fn the_newest_is_first()
+    ensures { (s : Standing) → HasKeptLists s → HasNewestFirst s }
 {}

@@ -19,8 +19,8 @@ pub use heap::apply_to_heap;
 pub use item_lines::{HoldsItems, take_items};
 pub use kind::Kind;
 pub use laws::{
-    items_come_out_in_order, pop_undoes_push, put_changes_its_register, removemins_rise,
-    the_last_eight_are_kept,
+    items_come_out_in_order, kept_lists_stay_sound, pop_undoes_push, put_changes_its_register,
+    removemins_rise, the_last_eight_are_kept, the_newest_is_first,
 };
 pub use lines::{
     count_in, is_count_line, item_in, put_item, put_items, put_register, read_items, register_in,
@@ -31,6 +31,3 @@ pub use object::{NotAState, Object, pass_by_lines};
 pub use queue::{LAST_POSITION, PlainQueue};
 pub use request::{Ask, KEPT_REQUESTS, Kept, LAST_NUMBER, Op, Reply, is_operation};
 pub use stack::apply_to_stack;
-
-#[cfg(test)]
-mod tests;

@@ -1,61 +1,17 @@
--- Writes of the lines that differ, one after the other.
-use Rattle.std.proofs.Common.{◌≡◌, ℕ, ◌+◌, ◌<◌, ◌≤◌, ◌⊎◌, inl, inr, zero, suc, Bool, true, false, not, List, [], ◌∷◌, ◌++◌, length, take, drop, get_or, refl, sym, ap, subst, ◌∙◌, append_assoc, add-one, arith}
+-- Writes of the lines that differ, one after the other, as a loop makes them.
+use Rattle.std.proofs.Common.{◌≡◌, ℕ, ◌+◌, ◌<◌, zero, suc, Bool, true, false, not, List, [], ◌∷◌, ◌++◌, length, take, drop, get_or, refl, sym, ap, subst, ◌∙◌, add-one, arith}
 use Rattle.std.specs.Prelude.{if◌then◌else◌}
 use Rattle.std.proofs.Math.Seq.{take-suc, split_at}
-use Rattle.std.proofs.lemmas.List.{append-nil, length-take-le, get_or-drop, get_or-set_same, get_or-set_other}
-use Rattle.std.proofs.lemmas.List.Elements.{All-nil, All-append, All-cons}
-use Rattle.std.specs.List.{All}
+use Rattle.std.proofs.lemmas.List.{append-nil, length-take-le, get_or-drop}
 use Rattle.pb_pmem.specs.declared.line.Line.{Line}
 use Rattle.pb_pmem.specs.declared.log.LogOp.{LogOp}
 use Rattle.pb_pmem.specs.declared.log.LogOp.TheVariants.{Whole}
-use Rattle.pb_pmem.specs.Contents.{contents}
 use Rattle.pb_pmem.specs.Device.{Device}
 use Rattle.pb_pmem.specs.Lines.{line_at, zero_line}
 use Rattle.pb_pmem.specs.Operations.{IsFailedPrefix, Does, Stops}
-use Rattle.pb_pmem.proofs.Lines.{contents-none, contents-one, contents-append, length-contents}
-use Rattle.pb_layout.proofs.Lines.{same_from_eq}
-use Rattle.pb_pair.proofs.Untouched.{IsApartFrom, Spares, line_at-spared}
 use Rattle.pb_pmem.proofs.OperationSteps.{does_then, stops_early, stops_late}
-use Rattle.pb_pair.specs.Store.{is_same, changes_from}
-
-abbrev no_lines : List Line
-no_lines = []
-
--- a line is written where it differs
-abbrev pub change_at : ℕ → Line → Line → List LogOp
-change_at place before line = if is_same before line then [] else Whole place line ∷ []
-
-pub changes_from-none : (first : ℕ) (before : List Line) → changes_from first before [] ≡ []
-unfolding changes_from
-changes_from-none first before = refl
-
-pub changes_from-more : (first : ℕ) (before : List Line) (line : Line) (lines : List Line) → changes_from first before (line ∷ lines) ≡ change_at first (line_at before 0) line ++ changes_from (suc first) (drop 1 before) lines
-unfolding changes_from
-changes_from-more first before line lines = refl
-
-none_left : (n : ℕ) → drop n (drop 1 no_lines) ≡ drop (suc n) no_lines
-none_left zero = refl
-none_left (suc n) = refl
-
-drop-one : (n : ℕ) (before : List Line) → drop n (drop 1 before) ≡ drop (suc n) before
-drop-one n [] = none_left n
-drop-one n (line ∷ before) = refl
-
--- the changes of some lines, and of those after them
-pub changes_from-append : (first : ℕ) (before a b : List Line) → changes_from first before (a ++ b) ≡ changes_from first before a ++ changes_from (first + length a) (drop (length a) before) b
-changes_from-append first before [] b =
-    let here : first ≡ first + 0 = omega arith in
-    ap (λ (n : ℕ). changes_from n before b) here ∙ sym (ap (λ (none : List LogOp). none ++ changes_from (first + 0) before b) (changes_from-none first before))
-changes_from-append first before (line ∷ a) b =
-    let here : suc first + length a ≡ first + suc (length a) = omega arith in
-    changes_from-more first before line (a ++ b)
-    ∙ (ap (λ (l : List LogOp). change_at first (line_at before 0) line ++ l) (changes_from-append (suc first) (drop 1 before) a b)
-    ∙ (sym (append_assoc (change_at first (line_at before 0) line) (changes_from (suc first) (drop 1 before) a) (changes_from (suc first + length a) (drop (length a) (drop 1 before)) b))
-    ∙ ((λ i. sym (changes_from-more first before line a) i ++ changes_from (here i) (drop-one (length a) before i) b))))
-
-changes_from-one : (first : ℕ) (before : List Line) (line : Line) → changes_from first before (line ∷ []) ≡ change_at first (line_at before 0) line
-changes_from-one first before line =
-    changes_from-more first before line [] ∙ (ap (λ (none : List LogOp). change_at first (line_at before 0) line ++ none) (changes_from-none (suc first) (drop 1 before)) ∙ append-nil (change_at first (line_at before 0) line))
+use Rattle.pb_layout.specs.RegionOps.{is_same, changes_from}
+use Rattle.pb_layout.proofs.SparseWrites.{change_at, changes_from-none, changes_from-more, changes_from-append}
 
 -- a line that was found by its place
 pub line_found : (lines : List Line) (place : ℕ) (line : Line) → place < length lines → line ≡ get_or lines place line → line_at lines place ≡ line
@@ -124,64 +80,3 @@ differs result false is test = refl
 pub agrees : (result same : Bool) → result ≡ not same → result ≡ false → same ≡ true
 agrees result true is test = refl
 agrees result false is test = absurd (cc)
-
--- What the changes leave
-
-drop-line_at : (before : List Line) (place : ℕ) → line_at (drop 1 before) place ≡ line_at before (suc place)
-drop-line_at before place = get_or-drop 1 before place zero_line ∙ ap (line_at before) (omega arith)
-
--- they write within the lines
-pub changes-spare : (at count first : ℕ) (before lines : List Line) → (at + count ≤ first) ⊎ (first + length lines ≤ at) → All (Spares at count) (changes_from first before lines)
-changes-spare at count first before [] apart = subst (All (Spares at count)) (sym (changes_from-none first before)) (All-nil (Spares at count))
-changes-spare at count first before (line ∷ lines) apart =
-    subst (All (Spares at count)) (sym (changes_from-more first before line lines))
-    (All-append (Spares at count) (change_at first (line_at before 0) line) (changes_from (suc first) (drop 1 before) lines) (one (is_same (line_at before 0) line)) (changes-spare at count (suc first) (drop 1 before) lines (further apart)))
-  where
-    further : (at + count ≤ first) ⊎ (first + suc (length lines) ≤ at) → (at + count ≤ suc first) ⊎ (suc first + length lines ≤ at)
-    further (inl before) = inl (omega arith)
-    further (inr after) = inr (omega arith)
-
-    out : (at + count ≤ first) ⊎ (first + suc (length lines) ≤ at) → IsApartFrom at count first
-    out (inl before) = inr before
-    out (inr after) = inl (omega arith)
-
-    one : (same : Bool) → All (Spares at count) (if same then [] else Whole first line ∷ [])
-    one true = All-nil (Spares at count)
-    one false = All-cons (Spares at count) (Whole first line) [] (out apart) (All-nil (Spares at count))
-
--- and the lines are there
-pub changes-there : (image : List Line) (first : ℕ) (before lines : List Line) → ((place : ℕ) → place < length lines → line_at image (first + place) ≡ line_at before place) → first + length lines ≤ length image → (place : ℕ) → place < length lines → line_at (contents image (changes_from first before lines)) (first + place) ≡ line_at lines place
-changes-there image first before [] there fits place inside = absurd (omega arith)
-changes-there image first before (line ∷ lines) there fits place inside =
-    ap (λ (l : List LogOp). line_at (contents image l) (first + place)) (changes_from-more first before line lines)
-    ∙ (ap (λ (l : List Line). line_at l (first + place)) (contents-append image (change_at first (line_at before 0) line) (changes_from (suc first) (drop 1 before) lines))
-    ∙ at (λ k below. changes-there next (suc first) (drop 1 before) lines after (omega (arith, long)) k below) place inside)
-  where
-    next : List Line
-    next = contents image (change_at first (line_at before 0) line)
-
-    rest : List LogOp
-    rest = changes_from (suc first) (drop 1 before) lines
-
-    long : length next ≡ length image
-    long = length-contents image (change_at first (line_at before 0) line)
-
-    here_by : (same : Bool) → (same ≡ true → line_at before 0 ≡ line) → line_at (contents image (if same then [] else Whole first line ∷ [])) first ≡ line
-    here_by true tells = ap (λ (l : List Line). line_at l first) (contents-none image) ∙ (ap (line_at image) (omega arith) ∙ (there 0 (omega arith) ∙ tells refl))
-    here_by false tells = ap (λ (l : List Line). line_at l first) (contents-one image (Whole first line)) ∙ get_or-set_same image first line zero_line (omega arith)
-
-    here : line_at next first ≡ line
-    here = here_by (is_same (line_at before 0) line) (λ e. same_from_eq (line_at before 0) line (sym e))
-
-    other_by : (same : Bool) (k : ℕ) → line_at (contents image (if same then [] else Whole first line ∷ [])) (suc first + k) ≡ line_at image (suc first + k)
-    other_by true k = ap (λ (l : List Line). line_at l (suc first + k)) (contents-none image)
-    other_by false k = ap (λ (l : List Line). line_at l (suc first + k)) (contents-one image (Whole first line)) ∙ get_or-set_other image first (suc first + k) line zero_line (λ e. omega arith)
-
-    after : (k : ℕ) → k < length lines → line_at next (suc first + k) ≡ line_at (drop 1 before) k
-    after k below = other_by (is_same (line_at before 0) line) k ∙ (ap (line_at image) (omega arith) ∙ (there (suc k) (omega arith) ∙ sym (drop-line_at before k)))
-
-    at : ((k : ℕ) → k < length lines → line_at (contents next rest) (suc first + k) ≡ line_at lines k) → (place : ℕ) → place < suc (length lines) → line_at (contents next rest) (first + place) ≡ line_at (line ∷ lines) place
-    at later zero inside =
-        line_at-spared rest next first 1 (first + 0) (omega arith) (omega arith) (changes-spare first 1 (suc first) (drop 1 before) lines (inl (omega arith))) ∙ (ap (line_at next) (omega arith) ∙ here)
-    at later (suc place) inside =
-        ap (line_at (contents next rest)) (omega arith) ∙ later place (omega arith)

@@ -8,9 +8,9 @@ use Rattle.pb_pmem.specs.declared.line.TheConstants.{LINES}
 use Rattle.pb_pmem.specs.declared.log.LogOp.{LogOp}
 use Rattle.pb_pmem.specs.declared.log.LogOp.TheVariants.{Whole, Word, Back, Fence, Sync}
 use Rattle.pb_pmem.specs.Contents.{contents}
-use Rattle.pb_pmem.specs.Device.{Device, IsWhole}
+use Rattle.pb_pmem.specs.Device.{Device, Tale, IsWhole, IsReplay}
 use Rattle.pb_pmem.specs.Lines.{line_at, zero_line}
-use Rattle.pb_pmem.specs.Operations.{writes_from}
+use Rattle.pb_pmem.specs.Operations.{writes_from, Does}
 use Rattle.pb_pmem.proofs.Lines.{contents-append, length-contents}
 use Rattle.pb_pmem.proofs.WrittenLines.{line_at-writes_here}
 use Rattle.pb_object.specs.Codes.{kind_code}
@@ -22,17 +22,20 @@ use Rattle.pb_layout.specs.Header.{record_length, old_record_length, old_first_r
 use Rattle.pb_layout.specs.Record.{IsRecord}
 use Rattle.pb_layout.specs.Region.{record_place}
 use Rattle.pb_layout.specs.RegionOps.{header_words, publish_ops, format_ops}
-use Rattle.pb_layout.specs.Represents.{record_at}
+use Rattle.pb_layout.specs.Represents.{record_at, record_in_use}
+use Rattle.pb_layout.specs.ToldExits.{contents_of}
 use Rattle.pb_layout.proofs.OneRecovery.{record_fits}
 use Rattle.pb_layout.proofs.Records.{piece_is}
+use Rattle.pb_layout.proofs.SparseWrites.{writes-spare}
+use Rattle.pb_layout.proofs.Untouched.{Spares, line_at-spared}
 use Rattle.pb_layout_laws.proofs.Geometry.{record_after}
 use Rattle.pb_layout_laws.proofs.WritingRegion.{one_or_two}
 use Rattle.pb_pair.specs.declared.known.Known.TheVariants.{Sure}
 use Rattle.pb_pair.specs.declared.side.Sides.{Sides}
 use Rattle.pb_pair.specs.Format.{AreFirst, IsFormatted, MakesRegion, fresh_side, front_ops, write_backs}
-use Rattle.pb_pair.specs.View.{PairView, at_side, pair_view, IsSide, HoldsSide, IsPair}
-use Rattle.pb_pair.proofs.Pairs.{now_before, writes-spare}
-use Rattle.pb_pair.proofs.Untouched.{Spares, line_at-spared}
+use Rattle.pb_pair.specs.View.{PairView, at_side, round_of, lines_of, pair_view, IsSide, HoldsSide, HoldsRecords, IsPair}
+use Rattle.pb_pair.proofs.Pairs.{now_before}
+use Rattle.pb_pair.proofs.Told.{whole_contents, told_before}
 
 -- what stands after the writes of the records
 abbrev pub rest_ops : Header → List LogOp
@@ -134,12 +137,30 @@ two_of head side here =
     let low : side_count head.kind ≡ 2 = elim (one_or_two head.kind) [ inl single ↦ absurd (omega arith) | inr both ↦ both ] in
     (omega (arith, low), omega arith)
 
-formatted_pair : (old new : Device) (head : Header) (first second : List Line) (sides : Sides) → AreFirst head first second → IsWhole old → MakesRegion head first second old new sides → IsPair (formatted_as new head first second)
-formatted_pair old new head first second sides given whole made = record {
+formatted_holds : (device : Device) (image : List Line) (head : Header) (first second : List Line) → length image ≡ LINES → AreFirst head first second → HoldsRecords (formatted_as device head first second) (contents image (format_ops head first second))
+formatted_holds device image head first second whole given = record { in_use = in_use; in_doubt = λ doubt is called. absurd (cc) }
+  where
+    new : List Line
+    new = contents image (format_ops head first second)
+
+    in_use : (side : ℕ) → side < side_count head.kind → record_in_use new head side (round_of (formatted_as device head first second) side) ≡ lines_of (formatted_as device head first second) side
+    in_use zero here = first_there image head first second whole given
+    in_use (suc side) here =
+        let two = two_of head side here in
+        subst (λ (n : ℕ). record_in_use new head n 0 ≡ second) two.1 (second_there image head first second whole given two.0)
+
+after_format : (old new : Device) (head : Header) (first second : List Line) → AreFirst head first second → IsWhole old → IsReplay old → Does (format_ops head first second) old new → (tale : Tale) → new.told ≡ Some tale → HoldsRecords (formatted_as new head first second) (contents_of tale)
+after_format old new head first second given whole replay does tale told =
+    let before = told_before (format_ops head first second) old.told new.told tale does.told told in
+    subst (HoldsRecords (formatted_as new head first second)) (sym before.2) (formatted_holds new (contents_of before.0) head first second (whole_contents old before.0 whole replay before.1) given)
+
+formatted_pair : (old new : Device) (head : Header) (first second : List Line) (sides : Sides) → AreFirst head first second → IsWhole old → IsReplay old → MakesRegion head first second old new sides → IsPair (formatted_as new head first second)
+formatted_pair old new head first second sides given whole replay made = record {
   valid = given.valid;
   sides = records;
   one_side = λ one. λ i. record { round = 0; lines = given.no_second one i; written = single one i; spare = None };
   holds = holds;
+  records = after_format old new head first second given whole replay made.device;
   unsure_first = λ unsure. absurd (unsure refl);
   unsure_second = λ unsure. absurd (unsure refl);
   in_doubt = λ doubt e. absurd (cc);
@@ -173,9 +194,9 @@ formatted_pair old new head first second sides given whole made = record {
           spare = λ lines e. absurd (cc);
         }
 
-pub formatted : (old new : Device) (head : Header) (first second : List Line) (sides : Sides) → AreFirst head first second → IsWhole old → MakesRegion head first second old new sides → IsFormatted head first second old (pair_view new head sides Sure None)
-formatted old new head first second sides given whole made = record {
-  sound = subst IsPair (sym same) (formatted_pair old new head first second sides given whole made);
+pub formatted : (old new : Device) (head : Header) (first second : List Line) (sides : Sides) → AreFirst head first second → IsWhole old → IsReplay old → MakesRegion head first second old new sides → IsFormatted head first second old (pair_view new head sides Sure None)
+formatted old new head first second sides given whole replay made = record {
+  sound = subst IsPair (sym same) (formatted_pair old new head first second sides given whole replay made);
   device = made.device;
   no_region = made.no_region;
   head = refl;

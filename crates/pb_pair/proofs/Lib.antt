@@ -1,6 +1,7 @@
 pub mod Changes
 pub mod Formatted
 pub mod Formatting
+pub mod HeldRecords
 pub mod Opened
 pub mod Pairs
 pub mod Reopened
@@ -8,4 +9,4 @@ pub mod Safe
 pub mod Settled
 pub mod Stored
 pub mod Tests
-pub mod Untouched
+pub mod Told

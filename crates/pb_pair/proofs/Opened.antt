@@ -2,7 +2,7 @@
 use Rattle.std.proofs.Common.{◌≡◌, ℕ, ◌+◌, ◌%◌, ◌<◌, zero, suc, List, ◌++◌, Option, Some, None, IfSome, length, take, drop, refl, sym, ap, subst, ◌∙◌, inl, inr, arith}
 use Rattle.std.proofs.lemmas.List.{take_at}
 use Rattle.pb_pmem.specs.declared.line.Line.{Line}
-use Rattle.pb_pmem.specs.Device.{Device, Fails, IsNoOp}
+use Rattle.pb_pmem.specs.Device.{Device, Tale, Fails, IsNoOp, IsReplay, IsWhole}
 use Rattle.pb_pmem.specs.Lines.{line_at}
 use Rattle.pb_object.specs.Standing.{side_count}
 use Rattle.pb_layout.specs.declared.header.Header.{Header}
@@ -12,6 +12,7 @@ use Rattle.pb_layout.specs.Header.{IsHeaderLine, header_line_of, word}
 use Rattle.pb_layout.specs.Record.{IsRecord, IsBadRecordAt}
 use Rattle.pb_layout.specs.Region.{record_place}
 use Rattle.pb_layout.specs.Represents.{record_in_use}
+use Rattle.pb_layout.specs.ToldExits.{contents_of}
 use Rattle.pb_layout.proofs.Readers.{named_by_line}
 use Rattle.pb_layout.proofs.Records.{line_at-piece}
 use Rattle.pb_layout_laws.proofs.WritingRegion.{one_or_two}
@@ -22,8 +23,9 @@ use Rattle.pb_pair.specs.declared.why.Stop.{Stop}
 use Rattle.pb_pair.specs.declared.why.Stop.TheVariants.{NoMemory, Fault, WasTaken, WasEmpty, BadLine}
 use Rattle.pb_pair.specs.Open.{IsReadFrom, IsRefusedAt, IsOpenStop, HasReadRegion}
 use Rattle.pb_pair.specs.Reading.{HasRead, IsFront, IsFrontRefusal, HasReadSide, IsSideStop, HasReadSecond, IsSecondStop}
-use Rattle.pb_pair.specs.View.{at_side, forgotten, if_known, side_view, pair_view, IsSide, HoldsSide, IsPair}
+use Rattle.pb_pair.specs.View.{at_side, forgotten, if_known, side_view, pair_view, IsSide, HoldsSide, HoldsRecords, IsPair}
 use Rattle.pb_pair.proofs.Settled.{unknown_holds}
+use Rattle.pb_pair.proofs.Told.{told_now}
 
 -- what is told may be weaker
 pub told_weaker : {X : Type 0} (now : Option X) (P Q : X → Type 0) → ((x : X) → P x → Q x) → IfSome now P → IfSome now Q
@@ -215,6 +217,8 @@ side_is head side round read old new is = record { long = is.long; own = subst (
 -- what was read of both
 pub record AreRead (head : Header) (first second : ℕ) (one two : Side) (old mid between new : Device) : Type 0 where
   pub same : mid ≡ old
+  pub whole : IsWhole old
+  pub replay : IsReplay old
   pub found : IfSome old.now (IsFound head first second)
   pub valid : IsHeader head
   pub first_read : HasReadSide head 0 first one mid between
@@ -223,12 +227,55 @@ pub record AreRead (head : Header) (first second : ℕ) (one two : Side) (old mi
 abbrev sides_of : Side → Side → Sides
 sides_of one two = record { first = one; second = two }
 
+-- the lines that were read, as the device's
+abbrev IsLinesOf : Header → ℕ → ℕ → List Line → List Line → Type 0
+IsLinesOf head side round lines image = lines ≡ record_in_use image head side round
+
+-- the device is as it was
+new_is : (head : Header) (first second : ℕ) (one two : Side) (old mid between new : Device) → AreRead head first second one two old mid between new → new ≡ old
+new_is head first second one two old mid between new are = last ∙ (are.first_read.same ∙ are.same)
+  where
+    last : new ≡ between
+    last = elim (one_or_two head.kind) [
+      | inl single ↦ (are.second_read.one single).0
+      | inr both ↦ (are.second_read.two (omega (arith, both))).same
+    ]
+
+first_lines : (head : Header) (first second : ℕ) (one two : Side) (old mid between new : Device) → AreRead head first second one two old mid between new → IfSome old.now (IsLinesOf head 0 first one.lines.items)
+first_lines head first second one two old mid between new are =
+    subst (λ (d : Device). IfSome d.now (IsLinesOf head 0 first one.lines.items)) are.same are.first_read.content
+
+second_lines : (head : Header) (first second : ℕ) (one two : Side) (old mid between new : Device) → AreRead head first second one two old mid between new → 1 < side_count head.kind → IfSome old.now (IsLinesOf head 1 second two.lines.items)
+second_lines head first second one two old mid between new are more =
+    subst (λ (d : Device). IfSome d.now (IsLinesOf head 1 second two.lines.items)) (are.first_read.same ∙ are.same) (are.second_read.two more).content
+
+-- it holds the records, where it tells its log
+read_holds : (head : Header) (first second : ℕ) (one two : Side) (old mid between new : Device) → AreRead head first second one two old mid between new → (tale : Tale) → new.told ≡ Some tale → HoldsRecords (pair_view new head (sides_of one two) Opened None) (contents_of tale)
+read_holds head first second one two old mid between new are tale told = record { in_use = in_use; in_doubt = λ doubt is called. absurd (cc) }
+  where
+    now : old.now ≡ Some (contents_of tale)
+    now = told_now old tale are.replay (subst (λ (d : Device). d.told ≡ Some tale) (new_is head first second one two old mid between new are) told)
+
+    is_there : (side round : ℕ) (lines : List Line) → IfSome old.now (IsLinesOf head side round lines) → record_in_use (contents_of tale) head side round ≡ lines
+    is_there side round lines read = sym (subst (λ (o : Option (List Line)). IfSome o (IsLinesOf head side round lines)) now read)
+
+    in_use : (side : ℕ) → side < side_count head.kind → record_in_use (contents_of tale) head side (at_side (side_view one) (side_view two) side).round ≡ (at_side (side_view one) (side_view two) side).lines
+    in_use zero here =
+        ap (record_in_use (contents_of tale) head 0) are.first_read.round_is ∙ is_there 0 first one.lines.items (first_lines head first second one two old mid between new are)
+    in_use (suc side) here =
+        let low : side_count head.kind ≡ 2 = elim (one_or_two head.kind) [ inl single ↦ absurd (omega arith) | inr both ↦ both ] in
+        let more : 1 < side_count head.kind = omega (arith, low) in
+        let same : 1 ≡ suc side = omega arith in
+        subst (λ (n : ℕ). record_in_use (contents_of tale) head n two.round ≡ two.lines.items) same
+        (ap (record_in_use (contents_of tale) head 1) (are.second_read.two more).round_is ∙ is_there 1 second two.lines.items (second_lines head first second one two old mid between new are more))
+
 read_pair : (head : Header) (first second : ℕ) (one two : Side) (old mid between new : Device) → AreRead head first second one two old mid between new → IsPair (pair_view new head (sides_of one two) Opened None)
 read_pair head first second one two old mid between new are = record {
   valid = are.valid;
   sides = sides;
   one_side = λ single. (are.second_read.one single).1;
   holds = λ image now side here. holds image side;
+  records = read_holds head first second one two old mid between new are;
   unsure_first = λ unsure. unknown;
   unsure_second = λ unsure. unknown_two;
   in_doubt = λ doubt e. absurd (cc);
@@ -254,10 +301,6 @@ read_pair head first second one two old mid between new are = record {
     holds : (image : List Line) (side : ℕ) → HoldsSide head side (at_side (side_view one) (side_view two) side) image
     holds image zero = unknown_holds head 0 (side_view one) image unknown
     holds image (suc side) = unknown_holds head (suc side) (side_view two) image unknown_two
-
--- the lines that were read, as the device's
-abbrev IsLinesOf : Header → ℕ → ℕ → List Line → List Line → Type 0
-IsLinesOf head side round lines image = lines ≡ record_in_use image head side round
 
 read_from : (head : Header) (first second : ℕ) (one two : Side) (old mid between new : Device) → AreRead head first second one two old mid between new → (image : List Line) → IsFound head first second image → IsLinesOf head 0 first one.lines.items image → (1 < side_count head.kind → IsLinesOf head 1 second two.lines.items image) → IsReadFrom (pair_view new head (sides_of one two) Opened None) image
 read_from head first second one two old mid between new are image found lines more = record {
@@ -291,28 +334,19 @@ read_from head first second one two old mid between new are image found lines mo
         subst (λ (n : ℕ). two.lines.items ≡ record_in image n) is.1 (more is.0 ∙ in_use_is image 1 head second found.head_is found.second_is)
 
 pub has_read_region : (head : Header) (first second : ℕ) (one two : Side) (old mid between new : Device) → AreRead head first second one two old mid between new → HasReadRegion (record { head = head; sides = record { first = one; second = two } }) old new
-has_read_region head first second one two old mid between new are = record {
-  opened = record {
-    sound = read_pair head first second one two old mid between new are;
-    same = same ∙ (are.first_read.same ∙ are.same);
-    read = elim (one_or_two head.kind) [
-      | inl single ↦ told_both old.now (IsFound head first second) (IsLinesOf head 0 first one.lines.items) (IsReadFrom (pair_view new head (sides_of one two) Opened None)) (λ image found lines. read_from head first second one two old mid between new are image found lines (λ both. absurd (omega (arith, single)))) are.found first_lines
-      | inr both ↦ let more : 1 < side_count head.kind = omega (arith, both) in told_both old.now (λ image. IsFound head first second image × IsLinesOf head 0 first one.lines.items image) (IsLinesOf head 1 second two.lines.items) (IsReadFrom (pair_view new head (sides_of one two) Opened None)) (λ image f lines. read_from head first second one two old mid between new are image f.0 f.1 (λ _. lines)) (told_both old.now (IsFound head first second) (IsLinesOf head 0 first one.lines.items) (λ image. IsFound head first second image × IsLinesOf head 0 first one.lines.items image) (λ image a b. (a, b)) are.found first_lines) (second_lines more)
-    ];
-    known = refl;
-    doubt = refl;
-  };
-  room = record { first = are.first_read.room; second = are.second_read.room };
-}
-  where
-    same : new ≡ between
-    same = elim (one_or_two head.kind) [
-      | inl single ↦ (are.second_read.one single).0
-      | inr both ↦ (are.second_read.two (omega (arith, both))).same
-    ]
-
-    first_lines : IfSome old.now (IsLinesOf head 0 first one.lines.items)
-    first_lines = subst (λ (d : Device). IfSome d.now (IsLinesOf head 0 first one.lines.items)) are.same are.first_read.content
-
-    second_lines : 1 < side_count head.kind → IfSome old.now (IsLinesOf head 1 second two.lines.items)
-    second_lines more = subst (λ (d : Device). IfSome d.now (IsLinesOf head 1 second two.lines.items)) (are.first_read.same ∙ are.same) (are.second_read.two more).content
+has_read_region head first second one two old mid between new are =
+    let ones = first_lines head first second one two old mid between new are in
+    record {
+      opened = record {
+        sound = read_pair head first second one two old mid between new are;
+        whole = are.whole;
+        same = new_is head first second one two old mid between new are;
+        read = elim (one_or_two head.kind) [
+          | inl single ↦ told_both old.now (IsFound head first second) (IsLinesOf head 0 first one.lines.items) (IsReadFrom (pair_view new head (sides_of one two) Opened None)) (λ image found lines. read_from head first second one two old mid between new are image found lines (λ both. absurd (omega (arith, single)))) are.found ones
+          | inr both ↦ let more : 1 < side_count head.kind = omega (arith, both) in told_both old.now (λ image. IsFound head first second image × IsLinesOf head 0 first one.lines.items image) (IsLinesOf head 1 second two.lines.items) (IsReadFrom (pair_view new head (sides_of one two) Opened None)) (λ image f lines. read_from head first second one two old mid between new are image f.0 f.1 (λ _. lines)) (told_both old.now (IsFound head first second) (IsLinesOf head 0 first one.lines.items) (λ image. IsFound head first second image × IsLinesOf head 0 first one.lines.items image) (λ image a b. (a, b)) are.found ones) (second_lines head first second one two old mid between new are more)
+        ];
+        known = refl;
+        doubt = refl;
+      };
+      room = record { first = are.first_read.room; second = are.second_read.room };
+    }

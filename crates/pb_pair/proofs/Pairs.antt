@@ -1,19 +1,18 @@
 -- What holds of a pair after each of its calls.
-use Rattle.std.proofs.Common.{◌≡◌, ◌≢◌, ℕ, zero, suc, ◌+◌, ◌*◌, ◌%◌, ◌<◌, ◌≤◌, ◌⊎◌, Bool, true, false, List, [], ◌∷◌, ◌++◌, length, take, drop, append_assoc, Option, Some, None, IfSome, option_map, refl, sym, ap, subst, ◌∙◌, inl, inr, arith}
+use Rattle.std.proofs.Common.{◌≡◌, ◌≢◌, ℕ, zero, suc, ◌+◌, ◌*◌, ◌%◌, ◌<◌, ◌≤◌, Bool, true, false, List, [], ◌∷◌, ◌++◌, length, take, drop, Option, Some, None, IfSome, option_map, refl, sym, ap, subst, ◌∙◌, inl, inr, arith}
 use Rattle.std.specs.List.{All}
 use Rattle.std.proofs.lemmas.List.Elements.{All-nil, All-append, All-cons}
 use Rattle.pb_pmem.specs.declared.device.DeviceFault.{DeviceFault}
 use Rattle.pb_pmem.specs.declared.line.Line.{Line}
 use Rattle.pb_pmem.specs.declared.line.TheConstants.{LINES}
 use Rattle.pb_pmem.specs.declared.log.LogOp.{LogOp}
-use Rattle.pb_pmem.specs.declared.log.LogOp.TheVariants.{Whole, Word, Back, Fence, Sync}
+use Rattle.pb_pmem.specs.declared.log.LogOp.TheVariants.{Whole, Back, Fence}
 use Rattle.pb_pmem.specs.Contents.{contents}
-use Rattle.pb_pmem.specs.Device.{Device, Fails, IsNoOp, IsWhole}
+use Rattle.pb_pmem.specs.Device.{Device, Tale, Fails, IsNoOp, IsWhole, IsReplay}
 use Rattle.pb_pmem.specs.Lines.{line_at}
-use Rattle.pb_pmem.specs.Operations.{writes_from, after, Does, Stops, StopsBy}
-use Rattle.pb_pmem.proofs.Lines.{contents-append, length-contents}
+use Rattle.pb_pmem.specs.Operations.{IsFailedPrefix, after, Does, Stops, StopsBy}
+use Rattle.pb_pmem.proofs.Lines.{contents-none, contents-first, contents-append, length-contents}
 use Rattle.pb_pmem.proofs.OperationSteps.{does_none}
-use Rattle.pb_pmem.proofs.WrittenLines.{writes_from-none, writes_from-more, line_at-writes_here}
 use Rattle.pb_object.specs.declared.kind.Kind.{Kind}
 use Rattle.pb_object.specs.declared.kind.Kind.TheVariants.{Map, Stack, Heap, Queue}
 use Rattle.pb_object.specs.Standing.{side_count}
@@ -23,20 +22,24 @@ use Rattle.pb_layout.specs.Header.{record_length}
 use Rattle.pb_layout.specs.Record.{IsRecord}
 use Rattle.pb_layout.specs.Cell.{cell_line_of}
 use Rattle.pb_layout.specs.Region.{record_place, cell_place}
-use Rattle.pb_layout.specs.RegionOps.{commit_ops, spare_place}
-use Rattle.pb_layout.specs.Represents.{record_at}
+use Rattle.pb_layout.specs.RegionOps.{writes_over, commit_ops, spare_place}
+use Rattle.pb_layout.specs.Represents.{record_at, record_in_use}
+use Rattle.pb_layout.specs.ToldExits.{contents_of}
 use Rattle.pb_layout.proofs.OneRecovery.{record_fits}
 use Rattle.pb_layout.proofs.Records.{piece_is, line_at-piece}
+use Rattle.pb_layout.proofs.SparseWrites.{over-spare, over-there}
+use Rattle.pb_layout.proofs.Untouched.{Spares, record_at-spared, blocks_apart_of}
+use Rattle.pb_layout_laws.proofs.CutOff.{cut_off_keeps}
 use Rattle.pb_layout_laws.proofs.Geometry.{parity-lt, parity-one, record_after, record_after_cells, cell_below}
 use Rattle.pb_pair.specs.declared.known.Doubt.{Doubt}
 use Rattle.pb_pair.specs.declared.known.Known.{Known}
 use Rattle.pb_pair.specs.declared.known.Known.TheVariants.{Sure, Failed}
 use Rattle.pb_pair.specs.declared.side.Sides.{Sides}
 use Rattle.pb_pair.specs.Cells.{IsNothing, IsFree, put_ops}
-use Rattle.pb_pair.specs.Store.{writes_over, stored_ops, stored_side, IsNext}
-use Rattle.pb_pair.specs.View.{SideView, DoubtView, PairView, at_side, side_of, no_side, forgotten, if_known, side_view, doubt_view, pair_view, HasRoom, IsSide, HoldsSide, IsDoubt, IsPair, HasFailed, HasForgotten}
-use Rattle.pb_pair.proofs.Changes.{changes-spare, changes-there}
-use Rattle.pb_pair.proofs.Untouched.{IsApartFrom, Spares, record_at-spared, line_at-spared, blocks_apart_of}
+use Rattle.pb_pair.specs.Store.{staged_ops, stored_ops, stored_side, IsNext, IsFailedStore, doubt_of}
+use Rattle.pb_pair.specs.View.{SideView, DoubtView, PairView, at_side, side_of, round_of, lines_of, no_side, forgotten, if_known, side_view, doubt_view, pair_view, HasRoom, IsSide, HoldsSide, IsDoubt, HoldsRecords, IsPair, HasFailed, HasForgotten}
+use Rattle.pb_pair.proofs.HeldRecords.{SparesRecords, added_spares, cut_spares, commit-spares, commit_spares, IsDoubtHere, keeps_records, kept_where_told}
+use Rattle.pb_pair.proofs.Told.{told_now, whole_contents, told_before}
 
 -- A call that failed
 
@@ -63,12 +66,32 @@ failed_as old device left = record {
   doubt = left;
 }
 
-pub failed_pair : (old : PairView) (device : Device) (left : Option DoubtView) → IsPair old → ((doubt : DoubtView) → left ≡ Some doubt → IsDoubt old.head old.first old.second doubt) → IsPair (failed_as old device left)
-failed_pair old device left sound in_doubt = record {
+-- it has the same records in use
+forgotten_round : (first second : SideView) (side : ℕ) → (at_side (forgotten first) (forgotten second) side).round ≡ (at_side first second side).round
+forgotten_round first second zero = refl
+forgotten_round first second (suc side) = refl
+
+failed_holds : (old : PairView) (device : Device) (left : Option DoubtView) (image : List Line) → HoldsRecords (record old { doubt = left }) image → HoldsRecords (failed_as old device left) image
+failed_holds old device left image holds = record {
+  in_use = in_use;
+  in_doubt = λ doubt is called. ap (λ (n : ℕ). record_in_use image old.head doubt.side (n + 1)) (forgotten_round old.first old.second doubt.side) ∙ holds.in_doubt doubt is called;
+}
+  where
+    in_use : (side : ℕ) → side < side_count old.head.kind → record_in_use image old.head side (round_of (failed_as old device left) side) ≡ lines_of (failed_as old device left) side
+    in_use zero here = holds.in_use 0 here
+    in_use (suc side) here = holds.in_use (suc side) here
+
+-- what the device holds after a call that left this record in doubt
+abbrev pub HoldsWith : PairView → Option DoubtView → Device → Type 0
+HoldsWith old left device = (tale : Tale) → device.told ≡ Some tale → HoldsRecords (record old { doubt = left }) (contents_of tale)
+
+pub failed_pair : (old : PairView) (device : Device) (left : Option DoubtView) → IsPair old → ((doubt : DoubtView) → left ≡ Some doubt → IsDoubt old.head old.first old.second doubt) → HoldsWith old left device → IsPair (failed_as old device left)
+failed_pair old device left sound in_doubt records = record {
   valid = sound.valid;
   sides = sides;
   one_side = λ one. ap forgotten (sound.one_side one);
   holds = λ image now side here. holds image side;
+  records = λ tale told. failed_holds old device left (contents_of tale) (records tale told);
   unsure_first = λ unsure. refl;
   unsure_second = λ unsure. refl;
   in_doubt = λ doubt is. same_doubt_of old.head old.first old.second (forgotten old.first) (forgotten old.second) doubt refl refl (in_doubt doubt is);
@@ -101,9 +124,9 @@ failed_view old device sides known doubt left are = λ i. record {
   doubt = are.left_is i;
 }
 
-pub has_failed : (IsPrefix : List LogOp → Type 0) (old : PairView) (device : Device) (sides : Sides) (known : Known) (doubt : Option Doubt) (left : Option DoubtView) (fault : DeviceFault) → IsPair old → IsFailedAs old sides known doubt left → StopsBy IsPrefix fault old.device device → HasFailed IsPrefix left old fault (pair_view device old.head sides known doubt)
-has_failed IsPrefix old device sides known doubt left fault sound are stops = record {
-  sound = subst IsPair (sym (failed_view old device sides known doubt left are)) (failed_pair old device left sound are.in_doubt);
+pub has_failed : (IsPrefix : List LogOp → Type 0) (old : PairView) (device : Device) (sides : Sides) (known : Known) (doubt : Option Doubt) (left : Option DoubtView) (fault : DeviceFault) → IsPair old → IsFailedAs old sides known doubt left → HoldsWith old left device → StopsBy IsPrefix fault old.device device → HasFailed IsPrefix left old fault (pair_view device old.head sides known doubt)
+has_failed IsPrefix old device sides known doubt left fault sound are records stops = record {
+  sound = subst IsPair (sym (failed_view old device sides known doubt left are)) (failed_pair old device left sound are.in_doubt records);
   device = stops;
   head = refl;
   first = are.first;
@@ -111,6 +134,11 @@ has_failed IsPrefix old device sides known doubt left fault sound are stops = re
   known = are.known_is;
   doubt = are.left_is;
 }
+
+-- a call that wrote none of the records, where it is cut off
+pub has_failed_beside : (IsPrefix : List LogOp → Type 0) (old : PairView) (device : Device) (sides : Sides) (known : Known) (doubt : Option Doubt) (fault : DeviceFault) → IsPair old → IsFailedAs old sides known doubt old.doubt → ((ops : List LogOp) → IsPrefix ops → SparesRecords old.head ops) → StopsBy IsPrefix fault old.device device → HasFailed IsPrefix old.doubt old fault (pair_view device old.head sides known doubt)
+has_failed_beside IsPrefix old device sides known doubt fault sound are spares stops =
+    has_failed IsPrefix old device sides known doubt old.doubt fault sound are (kept_where_told old stops.stops.ops device sound stops.stops.told (spares stops.stops.ops stops.stops.cut)) stops
 
 -- the records stay in their memory
 pub room_left : (old new : Sides) → HasRoom old → HasForgotten old new → HasRoom new
@@ -163,12 +191,13 @@ now_before ops (Some before) new image grown now = (before, refl, one_some image
     one_some a b e = cc
 
 -- a pair over a device whose records are as before
-pub moved_pair : (old : PairView) (device : Device) (ops : List LogOp) → IsPair old → device.now ≡ option_map (after ops) old.device.now → ((side which : ℕ) → side < side_count old.head.kind → All (Spares (record_place old.head side which) (record_length old.head)) ops) → IsPair (record old { device = device })
-moved_pair old device ops sound grown spares = record {
+pub moved_pair : (old : PairView) (device : Device) (ops : List LogOp) → IsPair old → Does ops old.device device → SparesRecords old.head ops → IsPair (record old { device = device })
+moved_pair old device ops sound does spares = record {
   valid = sound.valid;
   sides = sound.sides;
   one_side = sound.one_side;
   holds = holds;
+  records = λ tale told. let kept = kept_where_told old ops device sound does.told spares tale told in record { in_use = kept.in_use; in_doubt = kept.in_doubt };
   unsure_first = sound.unsure_first;
   unsure_second = sound.unsure_second;
   in_doubt = sound.in_doubt;
@@ -177,7 +206,7 @@ moved_pair old device ops sound grown spares = record {
   where
     holds : (image : List Line) → device.now ≡ Some image → (side : ℕ) → side < side_count old.head.kind → HoldsSide old.head side (side_of old side) image
     holds image now side here =
-        let before = now_before ops old.device.now device.now image grown now in
+        let before = now_before ops old.device.now device.now image does.now now in
         let was = sound.holds before.0 before.1 side here in
         let same = λ (which : ℕ). ap (λ (l : List Line). record_at l old.head side which) before.2 ∙ record_at-spared ops before.0 old.head side which (spares side which here) in
         record {
@@ -190,15 +219,15 @@ sure_not_failed e = cc
 
 -- Putting a cell
 
-put-spares : (head : Header) (position value side which : ℕ) → IsHeader head → head.kind ≡ Queue → All (Spares (record_place head side which) (record_length head)) (put_ops head position value)
-put-spares head position value side which valid queue =
+pub put_spares : (head : Header) (position value : ℕ) → IsHeader head → head.kind ≡ Queue → SparesRecords head (put_ops head position value)
+put_spares head position value valid queue side which here =
     let Out : LogOp → Type 0 = Spares (record_place head side which) (record_length head) in
     All-cons Out (Whole (cell_place head position) (cell_line_of position value)) (Back (cell_place head position) 1 ∷ []) (inl (omega (arith, cell_below head position valid queue, record_after_cells head side which)))
     (All-cons Out (Back (cell_place head position) 1) [] tt (All-nil Out))
 
 pub put_pair : (old : PairView) (device : Device) (position value : ℕ) → IsPair old → IsFree old position → Does (put_ops old.head position value) old.device device → IsPair (record old { device = device })
 put_pair old device position value sound free does =
-    moved_pair old device (put_ops old.head position value) sound does.now (λ side which here. put-spares old.head position value side which sound.valid free.queue)
+    moved_pair old device (put_ops old.head position value) sound does (put_spares old.head position value sound.valid free.queue)
 
 pub put_none : (old : PairView) (position : ℕ) → IsPair old → IsFree old position → old.doubt ≡ None
 put_none old position sound free = sound.decided (λ failed. sure_not_failed (sym free.known ∙ failed))
@@ -211,68 +240,41 @@ sides_few Stack side here = omega arith
 sides_few Heap side here = omega arith
 sides_few Queue side here = here
 
-pub writes-spare : (at count first : ℕ) (lines : List Line) → (at + count ≤ first) ⊎ (first + length lines ≤ at) → All (Spares at count) (writes_from first lines)
-writes-spare at count first [] apart = subst (All (Spares at count)) (sym (writes_from-none first)) (All-nil (Spares at count))
-writes-spare at count first (line ∷ lines) apart =
-    subst (All (Spares at count)) (sym (writes_from-more first line lines)) (All-cons (Spares at count) (Whole first line) (writes_from (suc first) lines) (out apart) (writes-spare at count (suc first) lines (further apart)))
-  where
-    further : (at + count ≤ first) ⊎ (first + suc (length lines) ≤ at) → (at + count ≤ suc first) ⊎ (suc first + length lines ≤ at)
-    further (inl before) = inl (omega arith)
-    further (inr after) = inr (omega arith)
+-- it leaves another record as it is
+staged-spares : (head : Header) (side : ℕ) (part : SideView) (lines : List Line) (other which : ℕ) → length lines ≡ record_length head → 2 * other + which ≢ 2 * side + (part.round + 1) % 2 → All (Spares (record_place head other which) (record_length head)) (staged_ops head side part lines)
+staged-spares head side part lines other which long apart =
+    let Out : LogOp → Type 0 = Spares (record_place head other which) (record_length head) in
+    let first = spare_place head side part.round in
+    All-append Out (writes_over first part.spare lines) (Back first (length lines) ∷ Fence ∷ [])
+    (over-spare (record_place head other which) (record_length head) first part.spare lines (blocks_apart_of head side ((part.round + 1) % 2) other which (length lines) long apart))
+    (All-cons Out (Back first (length lines)) (Fence ∷ []) tt (All-cons Out Fence [] tt (All-nil Out)))
 
-    out : (at + count ≤ first) ⊎ (first + suc (length lines) ≤ at) → IsApartFrom at count first
-    out (inl before) = inr before
-    out (inr after) = inl (omega arith)
-
-over-spare : (at count first : ℕ) (spare : Option (List Line)) (lines : List Line) → (at + count ≤ first) ⊎ (first + length lines ≤ at) → All (Spares at count) (writes_over first spare lines)
-over-spare at count first None lines apart = writes-spare at count first lines apart
-over-spare at count first (Some before) lines apart = changes-spare at count first before lines apart
-
--- what stands behind the writes of the lines
-abbrev pub closing_ops : ℕ → ℕ → ℕ → ℕ → List LogOp
-closing_ops first count side index = Back first count ∷ Fence ∷ Word (1 + side) 0 index ∷ Back (1 + side) 1 ∷ Sync ∷ []
-
-closing-spares : (at count first many side index : ℕ) → side < 2 → 3 ≤ at → All (Spares at count) (closing_ops first many side index)
-closing-spares at count first many side index few after =
-    let Out : LogOp → Type 0 = Spares at count in
-    All-cons Out (Back first many) (Fence ∷ Word (1 + side) 0 index ∷ Back (1 + side) 1 ∷ Sync ∷ []) tt
-    (All-cons Out Fence (Word (1 + side) 0 index ∷ Back (1 + side) 1 ∷ Sync ∷ []) tt
-    (All-cons Out (Word (1 + side) 0 index) (Back (1 + side) 1 ∷ Sync ∷ []) (inl (omega arith))
-    (All-cons Out (Back (1 + side) 1) (Sync ∷ []) tt (All-cons Out Sync [] tt (All-nil Out)))))
-
-stored_in_two : (head : Header) (side : ℕ) (part : SideView) (lines : List Line) → stored_ops head side part lines ≡ writes_over (spare_place head side part.round) part.spare lines ++ closing_ops (spare_place head side part.round) (length lines) side (part.round + 1)
-stored_in_two head side part lines =
-    append_assoc (writes_over (spare_place head side part.round) part.spare lines) (Back (spare_place head side part.round) (length lines) ∷ Fence ∷ []) (commit_ops side (part.round + 1))
-
--- another record
 stored-spares : (head : Header) (side : ℕ) (part : SideView) (lines : List Line) (other which : ℕ) → side < 2 → length lines ≡ record_length head → 2 * other + which ≢ 2 * side + (part.round + 1) % 2 → All (Spares (record_place head other which) (record_length head)) (stored_ops head side part lines)
 stored-spares head side part lines other which few long apart =
-    let at = record_place head other which in
-    let count = record_length head in
-    let first = spare_place head side part.round in
-    subst (All (Spares at count)) (sym (stored_in_two head side part lines))
-    (All-append (Spares at count) (writes_over first part.spare lines) (closing_ops first (length lines) side (part.round + 1))
-    (over-spare at count first part.spare lines (blocks_apart_of head side ((part.round + 1) % 2) other which (length lines) long apart))
-    (closing-spares at count first (length lines) side (part.round + 1) few (record_after head other which)))
+    All-append (Spares (record_place head other which) (record_length head)) (staged_ops head side part lines) (commit_ops side (part.round + 1))
+    (staged-spares head side part lines other which long apart)
+    (commit-spares (record_place head other which) (record_length head) side (part.round + 1) few (record_after head other which))
 
--- the lines are there after the writes ..
-pub over-there : (image : List Line) (first : ℕ) (spare : Option (List Line)) (lines : List Line) → ((before : List Line) → spare ≡ Some before → (place : ℕ) → place < length lines → line_at image (first + place) ≡ line_at before place) → first + length lines ≤ length image → (place : ℕ) → place < length lines → line_at (contents image (writes_over first spare lines)) (first + place) ≡ line_at lines place
-over-there image first None lines holds fits place inside = line_at-writes_here image first lines place inside fits
-over-there image first (Some before) lines holds fits place inside = changes-there image first before lines (holds before refl) fits place inside
+-- the lines are there after they are written, given to the device and fenced ..
+given_same : (image : List Line) (first many : ℕ) → contents image (Back first many ∷ Fence ∷ []) ≡ image
+given_same image first many =
+    contents-first image (Back first many) (Fence ∷ []) ∙ (contents-first image Fence [] ∙ contents-none image)
 
--- .. and after the store
-stored-there : (image : List Line) (head : Header) (side : ℕ) (part : SideView) (lines : List Line) → length image ≡ LINES → IsHeader head → side < side_count head.kind → length lines ≡ record_length head → HoldsSide head side part image → record_at (contents image (stored_ops head side part lines)) head side ((part.round + 1) % 2) ≡ lines
-stored-there image head side part lines whole valid here long holds =
-    ap (λ (n : ℕ). take n (drop first new)) (sym long) ∙ piece_is new lines first (omega (arith, fits, length-contents image (stored_ops head side part lines))) at
+staged_there : (image : List Line) (head : Header) (side : ℕ) (part : SideView) (lines : List Line) → length image ≡ LINES → IsHeader head → side < side_count head.kind → length lines ≡ record_length head → HoldsSide head side part image → record_at (contents image (staged_ops head side part lines)) head side ((part.round + 1) % 2) ≡ lines
+staged_there image head side part lines whole valid here long holds =
+    ap (λ (n : ℕ). take n (drop first new)) (sym long) ∙ piece_is new lines first (omega (arith, fits, length-contents image (staged_ops head side part lines))) at
   where
     first : ℕ
     first = spare_place head side part.round
 
     new : List Line
-    new = contents image (stored_ops head side part lines)
+    new = contents image (staged_ops head side part lines)
 
-    mid : List Line
-    mid = contents image (writes_over first part.spare lines)
+    writes : List LogOp
+    writes = writes_over first part.spare lines
+
+    same : new ≡ contents image writes
+    same = contents-append image writes (Back first (length lines) ∷ Fence ∷ []) ∙ given_same (contents image writes) first (length lines)
 
     fits : first + length lines ≤ length image
     fits = omega (arith, record_fits head side ((part.round + 1) % 2) valid here (parity-lt (part.round + 1)))
@@ -283,10 +285,14 @@ stored-there image head side part lines whole valid here long holds =
 
     at : (place : ℕ) → place < length lines → line_at new (first + place) ≡ line_at lines place
     at place inside =
-        ap (λ (l : List LogOp). line_at (contents image l) (first + place)) (stored_in_two head side part lines)
-        ∙ (ap (λ (l : List Line). line_at l (first + place)) (contents-append image (writes_over first part.spare lines) (closing_ops first (length lines) side (part.round + 1)))
-        ∙ (line_at-spared (closing_ops first (length lines) side (part.round + 1)) mid first (length lines) (first + place) (omega arith) (omega arith) (closing-spares first (length lines) first (length lines) side (part.round + 1) (sides_few head.kind side here) (record_after head side ((part.round + 1) % 2)))
-        ∙ over-there image first part.spare lines before fits place inside))
+        ap (λ (l : List Line). line_at l (first + place)) same ∙ over-there image first part.spare lines before fits place inside
+
+-- .. and after the store
+stored_there : (image : List Line) (head : Header) (side : ℕ) (part : SideView) (lines : List Line) → length image ≡ LINES → IsHeader head → side < side_count head.kind → length lines ≡ record_length head → HoldsSide head side part image → record_at (contents image (stored_ops head side part lines)) head side ((part.round + 1) % 2) ≡ lines
+stored_there image head side part lines whole valid here long holds =
+    ap (λ (l : List Line). record_at l head side ((part.round + 1) % 2)) (contents-append image (staged_ops head side part lines) (commit_ops side (part.round + 1)))
+    ∙ (record_at-spared (commit_ops side (part.round + 1)) (contents image (staged_ops head side part lines)) head side ((part.round + 1) % 2) (commit_spares head side (part.round + 1) (sides_few head.kind side here) side ((part.round + 1) % 2) here)
+    ∙ staged_there image head side part lines whole valid here long holds)
 
 known_lines : (written : Bool) (lines known : List Line) → if_known written lines ≡ Some known → (written ≡ true) × (lines ≡ known)
 known_lines true lines known e = (refl, cc)
@@ -295,7 +301,7 @@ known_lines false lines known e = absurd (cc)
 -- what is known of the stored side
 stored_holds : (image : List Line) (head : Header) (side : ℕ) (part : SideView) (lines : List Line) → length image ≡ LINES → IsHeader head → side < side_count head.kind → length lines ≡ record_length head → HoldsSide head side part image → HoldsSide head side (stored_side part lines) (contents image (stored_ops head side part lines))
 stored_holds image head side part lines whole valid here long holds = record {
-  in_use = λ written. stored-there image head side part lines whole valid here long holds;
+  in_use = λ written. stored_there image head side part lines whole valid here long holds;
   spare = spare;
 }
   where
@@ -331,12 +337,95 @@ stored_as old device side lines = record {
   doubt = None;
 }
 
-pub stored_pair : (old : PairView) (device : Device) (side : ℕ) (lines : List Line) → IsPair old → IsWhole old.device → IsNext old side lines → Does (stored_ops old.head side (side_of old side) lines) old.device device → IsPair (stored_as old device side lines)
-stored_pair old device side lines sound whole next does = record {
+-- The records, where the device tells its log
+
+-- no side's record in use is the spare one of this side
+in_use_is_other : (pair : PairView) (side other : ℕ) → 2 * other + round_of pair other % 2 ≢ 2 * side + (round_of pair side + 1) % 2
+in_use_is_other pair side other e =
+    let same : other ≡ side = omega (arith, e, parity-lt (round_of pair other), parity-lt (round_of pair side + 1)) in
+    parity-one (round_of pair side) (omega (arith, e, same, ap (round_of pair) same))
+
+one_doubt : (a b : DoubtView) → ◌≡◌ {A = Option DoubtView} (Some a) (Some b) → a ≡ b
+one_doubt a b e = cc
+
+-- the record that a store put in its place
+abbrev this_doubt : ℕ → List Line → DoubtView
+this_doubt side lines = record { side = side; lines = lines; called = true }
+
+staged_holds : (old : PairView) (side : ℕ) (lines image : List Line) → IsPair old → length image ≡ LINES → old.device.now ≡ Some image → IsNext old side lines → HoldsRecords old image → HoldsRecords (record old { doubt = doubt_of side lines true }) (contents image (staged_ops old.head side (side_of old side) lines))
+staged_holds old side lines image sound whole now next holds = record {
+  in_use = λ other here. record_at-spared ops image old.head other (round_of old other % 2) (staged-spares old.head side (side_of old side) lines other (round_of old other % 2) next.long (in_use_is_other old side other)) ∙ holds.in_use other here;
+  in_doubt = λ doubt is called. subst (λ (d : DoubtView). record_in_use (contents image ops) old.head d.side (round_of old d.side + 1) ≡ d.lines) (one_doubt (this_doubt side lines) doubt is) there;
+}
+  where
+    ops : List LogOp
+    ops = staged_ops old.head side (side_of old side) lines
+
+    there : record_in_use (contents image ops) old.head side (round_of old side + 1) ≡ lines
+    there = staged_there image old.head side (side_of old side) lines whole sound.valid next.here next.long (sound.holds image now side next.here)
+
+this_here : (old : PairView) (side : ℕ) (lines : List Line) → side < side_count old.head.kind → IsDoubtHere (record old { doubt = doubt_of side lines true })
+this_here old side lines here doubt is = subst (λ (d : DoubtView). d.side < side_count old.head.kind) (one_doubt (this_doubt side lines) doubt is) here
+
+-- a store that failed before its index word ..
+unstaged_holds : (old : PairView) (side : ℕ) (lines image : List Line) (ops : List LogOp) → IsNext old side lines → IsFailedPrefix (staged_ops old.head side (side_of old side) lines) ops → HoldsRecords old image → HoldsRecords (record old { doubt = doubt_of side lines false }) (contents image ops)
+unstaged_holds old side lines image ops next cut holds = record {
+  in_use = λ other here. record_at-spared ops image old.head other (round_of old other % 2) (cut_off_keeps (Spares (record_place old.head other (round_of old other % 2)) (record_length old.head)) (added_spares (record_place old.head other (round_of old other % 2)) (record_length old.head)) (staged_ops old.head side (side_of old side) lines) ops (staged-spares old.head side (side_of old side) lines other (round_of old other % 2) next.long (in_use_is_other old side other)) cut) ∙ holds.in_use other here;
+  in_doubt = λ doubt is called. absurd (cc (is, called));
+}
+
+-- .. and from it on
+failed_store_holds : (called : Bool) (old : PairView) (side : ℕ) (lines image : List Line) (ops : List LogOp) → IsPair old → length image ≡ LINES → old.device.now ≡ Some image → IsNext old side lines → IsFailedStore old.head side (side_of old side) lines called ops → HoldsRecords old image → HoldsRecords (record old { doubt = doubt_of side lines called }) (contents image ops)
+failed_store_holds false old side lines image ops sound whole now next cut holds = unstaged_holds old side lines image ops next cut holds
+failed_store_holds true old side lines image ops sound whole now next cut holds =
+    let staged = staged_ops old.head side (side_of old side) lines in
+    let left : PairView = record old { doubt = doubt_of side lines true } in
+    subst (HoldsRecords left) (sym (ap (contents image) cut.whole ∙ contents-append image staged cut.tail))
+    (keeps_records left cut.tail (contents image staged) (this_here old side lines next.here) (cut_spares old.head (commit_ops side (round_of old side + 1)) cut.tail (commit_spares old.head side (round_of old side + 1) (sides_few old.head.kind side next.here)) cut.cut) (staged_holds old side lines image sound whole now next holds))
+
+-- where the log was told before a call
+pub after_failed_store : (called : Bool) (old : PairView) (device : Device) (side : ℕ) (lines : List Line) → IsPair old → IsWhole old.device → IsReplay old.device → IsNext old side lines → Stops (IsFailedStore old.head side (side_of old side) lines called) old.device device → HoldsWith old (doubt_of side lines called) device
+after_failed_store called old device side lines sound whole replay next stops tale told =
+    let before = told_before stops.ops old.device.told device.told tale stops.told told in
+    subst (HoldsRecords (record old { doubt = doubt_of side lines called })) (sym before.2)
+    (failed_store_holds called old side lines (contents_of before.0) stops.ops sound (whole_contents old.device before.0 whole replay before.1) (told_now old.device before.0 replay before.1) next stops.cut (sound.records before.0 before.1))
+
+-- a whole store
+stored_records : (old : PairView) (device : Device) (side : ℕ) (lines image : List Line) → side < side_count old.head.kind → HoldsRecords (record old { doubt = doubt_of side lines true }) image → HoldsRecords (stored_as old device side lines) image
+stored_records old device side lines image here holds = record { in_use = in_use side here (holds.in_doubt (this_doubt side lines) refl refl); in_doubt = λ doubt is called. absurd (cc) }
+  where
+    in_use : (side : ℕ) → side < side_count old.head.kind → record_in_use image old.head side (round_of old side + 1) ≡ lines → (other : ℕ) → other < side_count old.head.kind → record_in_use image old.head other (round_of (stored_as old device side lines) other) ≡ lines_of (stored_as old device side lines) other
+    in_use zero here there zero within = there
+    in_use zero here there (suc other) within = holds.in_use (suc other) within
+    in_use (suc side) here there zero within = holds.in_use 0 within
+    in_use (suc side) here there (suc other) within =
+        let few = sides_few old.head.kind (suc side) here in
+        let low = sides_few old.head.kind (suc other) within in
+        let same : suc side ≡ suc other = omega arith in
+        subst (λ (n : ℕ). record_in_use image old.head n (old.second.round + 1) ≡ lines) same there
+
+stored_hold : (old : PairView) (device : Device) (side : ℕ) (lines image : List Line) → IsPair old → length image ≡ LINES → old.device.now ≡ Some image → IsNext old side lines → HoldsRecords old image → HoldsRecords (stored_as old device side lines) (contents image (stored_ops old.head side (side_of old side) lines))
+stored_hold old device side lines image sound whole now next holds =
+    let staged = staged_ops old.head side (side_of old side) lines in
+    let commit = commit_ops side (round_of old side + 1) in
+    let left : PairView = record old { doubt = doubt_of side lines true } in
+    stored_records old device side lines (contents image (staged ++ commit)) next.here
+    (subst (HoldsRecords left) (sym (contents-append image staged commit))
+    (keeps_records left commit (contents image staged) (this_here old side lines next.here) (commit_spares old.head side (round_of old side + 1) (sides_few old.head.kind side next.here)) (staged_holds old side lines image sound whole now next holds)))
+
+after_store : (old : PairView) (device : Device) (side : ℕ) (lines : List Line) → IsPair old → IsWhole old.device → IsReplay old.device → IsNext old side lines → Does (stored_ops old.head side (side_of old side) lines) old.device device → (tale : Tale) → device.told ≡ Some tale → HoldsRecords (stored_as old device side lines) (contents_of tale)
+after_store old device side lines sound whole replay next does tale told =
+    let before = told_before (stored_ops old.head side (side_of old side) lines) old.device.told device.told tale does.told told in
+    subst (HoldsRecords (stored_as old device side lines)) (sym before.2)
+    (stored_hold old device side lines (contents_of before.0) sound (whole_contents old.device before.0 whole replay before.1) (told_now old.device before.0 replay before.1) next (sound.records before.0 before.1))
+
+pub stored_pair : (old : PairView) (device : Device) (side : ℕ) (lines : List Line) → IsPair old → IsWhole old.device → IsReplay old.device → IsNext old side lines → Does (stored_ops old.head side (side_of old side) lines) old.device device → IsPair (stored_as old device side lines)
+stored_pair old device side lines sound whole replay next does = record {
   valid = sound.valid;
   sides = sides side next.here next.long next.own;
   one_side = one_side side next.here;
   holds = λ image now. let before = now_before (stored_ops old.head side (side_of old side) lines) old.device.now device.now image does.now now in λ other here. subst (HoldsSide old.head other (side_of (stored_as old device side lines) other)) (sym before.2) (holds before.0 (whole_image before.0 before.1) (sound.holds before.0 before.1) side other next.here next.long here);
+  records = after_store old device side lines sound whole replay next does;
   unsure_first = λ unsure. absurd (unsure refl);
   unsure_second = λ unsure. absurd (unsure refl);
   in_doubt = λ doubt e. absurd (cc);

@@ -12,7 +12,7 @@ use Rattle.pb_object.specs.Standing.{Standing, side_count, rounds_of}
 use Rattle.pb_layout.specs.Damage.{HasRegion, opening_checks, state_checks, region_checks}
 use Rattle.pb_layout.specs.Header.{word}
 use Rattle.pb_layout.specs.Recovered.{Represents}
-use Rattle.pb_layout.specs.Represents.{header_for}
+use Rattle.pb_layout.specs.Represents.{header_for, record_in_use, record_of_side}
 use Rattle.pb_layout.specs.ToldExits.{IsReadyWith, StaysFound, contents_of}
 use Rattle.pb_layout.proofs.Checks.{all_sound, named_before, region_sharp}
 use Rattle.pb_layout.proofs.OneRecovery.{region_from, parts}
@@ -27,10 +27,11 @@ use Rattle.pb_pair.specs.Open.{IsReadFrom, IsOpened, IsRefusedAt, IsOpenRefusal}
 use Rattle.pb_pair.specs.Safe.{IsPairOf, IsStoreOf, IsDoubtOf}
 use Rattle.pb_pair.specs.Settle.{IsSettled, settled_ops, was_called}
 use Rattle.pb_pair.specs.Store.{IsNext, IsStored, HasFailedStore}
-use Rattle.pb_pair.specs.View.{DoubtView, SideView, PairView, round_of, HasFailed}
+use Rattle.pb_pair.specs.View.{DoubtView, SideView, PairView, round_of, lines_of, IsPair, HasFailed}
 use Rattle.pb_pair.proofs.Opened.{header_is}
 use Rattle.pb_pair.proofs.Pairs.{sides_few}
-use Rattle.pb_pair.proofs.Safe.{told_after, settles_found, round_after, not_called}
+use Rattle.pb_pair.proofs.Safe.{settles_found, round_after, not_called}
+use Rattle.pb_pair.proofs.Told.{told_after}
 
 told_is : {X : Type 0} (now : Option X) (x : X) (P : X → Type 0) → now ≡ Some x → IfSome now P → P x
 told_is now x P is told = subst (λ o. IfSome o P) is told
@@ -168,3 +169,13 @@ failed_keeps_doubt IsPrefix old new fault s round failed doubt = record {
   called = doubt.called;
   side_is = doubt.side_is;
 }
+
+-- The records that a device holds which tells its log
+
+pub in_use_of : (pair : PairView) (s : Standing) (tale : Tale) (side : ℕ) → IsPair pair → IsPairOf pair s → pair.device.told ≡ Some tale → side < side_count pair.head.kind → lines_of pair side ≡ record_of_side (contents_of tale) s side
+in_use_of pair s tale side sound of told here =
+    sym ((sound.records tale told).in_use side here) ∙ (λ i. record_in_use (contents_of tale) (of.head i) side (of.rounds side (sides_few pair.head.kind side here) i))
+
+pub in_doubt_of : (pair : PairView) (s : Standing) (tale : Tale) (doubt : DoubtView) → IsPair pair → IsPairOf pair s → pair.device.told ≡ Some tale → pair.doubt ≡ Some doubt → doubt.called ≡ true → doubt.lines ≡ record_in_use (contents_of tale) (header_for s) doubt.side (rounds_of s doubt.side + 1)
+in_doubt_of pair s tale doubt sound of told is called =
+    sym ((sound.records tale told).in_doubt doubt is called) ∙ (λ i. record_in_use (contents_of tale) (of.head i) doubt.side (of.rounds doubt.side (sides_few pair.head.kind doubt.side (sound.in_doubt doubt is).here) i + 1))

@@ -1,22 +1,21 @@
 -- What a call did to the log says what a crash leaves after it.
-use Rattle.std.proofs.Common.{◌≡◌, ◌≢◌, ℕ, suc, ◌+◌, ◌<◌, ◌≤◌, ◌⊎◌, Bool, true, false, List, [], ◌∷◌, ◌++◌, length, Option, Some, None, IfSome, option_map, refl, sym, ap, subst, ◌∙◌, inl, inr, arith}
+use Rattle.std.proofs.Common.{◌≡◌, ◌≢◌, ℕ, ◌+◌, ◌<◌, ◌≤◌, ◌⊎◌, Bool, true, false, List, [], ◌∷◌, ◌++◌, length, Option, Some, None, IfSome, option_map, refl, sym, ap, subst, ◌∙◌, inl, inr, arith}
 use Rattle.std.specs.List.{All}
-use Rattle.std.specs.Prelude.{◌==◌, ◌&&◌, if◌then◌else◌}
+use Rattle.std.specs.Prelude.{◌==◌, ◌&&◌}
 use Rattle.std.proofs.lemmas.Bool.Decides.{nat_tests}
 use Rattle.std.proofs.lemmas.List.{append-nil, length-set}
-use Rattle.std.proofs.lemmas.List.Elements.{All-nil, All-append, All-cons}
+use Rattle.std.proofs.lemmas.List.Elements.{All-nil}
 use Rattle.pb_pmem.specs.declared.device.DeviceFault.{DeviceFault}
 use Rattle.pb_pmem.specs.declared.line.Line.{Line}
 use Rattle.pb_pmem.specs.declared.line.TheConstants.{LINES}
 use Rattle.pb_pmem.specs.declared.log.LogOp.{LogOp}
-use Rattle.pb_pmem.specs.declared.log.LogOp.TheVariants.{Whole, Back, Fence}
+use Rattle.pb_pmem.specs.declared.log.LogOp.TheVariants.{Back, Fence}
 use Rattle.pb_pmem.specs.Contents.{contents}
 use Rattle.pb_pmem.specs.Device.{Device, Tale, IsWhole, IsReplay}
 use Rattle.pb_pmem.specs.Lines.{line_at}
-use Rattle.pb_pmem.specs.Operations.{writes_from, IsFailedPrefix, with_ops, Does, Stops}
+use Rattle.pb_pmem.specs.Operations.{IsFailedPrefix, with_ops, Does, Stops}
 use Rattle.pb_pmem.proofs.CrashLaws.{IsAtRest-none}
-use Rattle.pb_pmem.proofs.Lines.{contents-none, length-contents}
-use Rattle.pb_pmem.proofs.WrittenLines.{writes_from-none, writes_from-more}
+use Rattle.pb_pmem.proofs.Lines.{contents-none}
 use Rattle.pb_object.specs.declared.kind.Kind.TheVariants.{Queue}
 use Rattle.pb_object.specs.History.{Round, IsLegalRound, after_round}
 use Rattle.pb_object.specs.Object.{State, Registers, Items, Rising, Waits}
@@ -31,7 +30,7 @@ use Rattle.pb_layout.specs.LogHistory.{AreSealed, history_of}
 use Rattle.pb_layout.specs.NextRecord.{IsNextRecord, HasCells}
 use Rattle.pb_layout.specs.PutCell.{IsFreePosition}
 use Rattle.pb_layout.specs.Recovered.{Represents}
-use Rattle.pb_layout.specs.RegionOps.{stage_by, store_by, commit_ops, spare_place, prepare_ops, format_ops, settle_ops, settle_to}
+use Rattle.pb_layout.specs.RegionOps.{writes_over, stage_by, store_by, commit_ops, spare_place, prepare_ops, format_ops, settle_ops, settle_to}
 use Rattle.pb_layout.specs.Represents.{header_for, object_parts}
 use Rattle.pb_layout.specs.Stages.{IsStagingOp, StagesRecord}
 use Rattle.pb_layout.specs.ToldExits.{IsCoveredExit, HasPublished, contents_of, IsReadyWith}
@@ -39,6 +38,7 @@ use Rattle.pb_layout.proofs.Decided.{Decided, decided_eq}
 use Rattle.pb_layout.proofs.OneRecovery.{record_fits, parts}
 use Rattle.pb_layout.proofs.Readiness.{at_rest_is_ready}
 use Rattle.pb_layout.proofs.Records.{line_at-piece}
+use Rattle.pb_layout.proofs.SparseWrites.{over_stage, over_stages}
 use Rattle.pb_layout_laws.proofs.Formatting.{cut_off_while_appearing, makes_a_region}
 use Rattle.pb_layout_laws.proofs.Geometry.{parity-lt}
 use Rattle.pb_layout_laws.proofs.InDoubt.{settling_doubt, settling_doubt_failing, settling_landed, settling_landed_failing, landed_still}
@@ -56,24 +56,12 @@ use Rattle.pb_pair.specs.Cells.{IsFree, put_ops}
 use Rattle.pb_pair.specs.Format.{IsFailedFormat, IsFormatStop}
 use Rattle.pb_pair.specs.Safe.{FormatCovers, FailedFormatCovers, IsPairOf, IsPutOf, PutCovers, IsStoreOf, StoreCovers, FailedStoreCovers, IsDoubtOf, SettleCovers, FailedSettleCovers}
 use Rattle.pb_pair.specs.Settle.{was_called, settled_by, settled_side, settled_ops}
-use Rattle.pb_pair.specs.Store.{changes_from, is_same, writes_over, staged_ops, stored_ops, IsNext, IsStored, IsFailedStore, doubt_of, HasFailedStore}
+use Rattle.pb_pair.specs.Store.{staged_ops, stored_ops, IsNext, IsStored, IsFailedStore, doubt_of, HasFailedStore}
 use Rattle.pb_pair.specs.View.{SideView, DoubtView, PairView, side_of, round_of, lines_of, HoldsSide, IsPair}
 use Rattle.pb_pair.specs.declared.why.Stop.{Stop}
 use Rattle.pb_pair.specs.declared.why.Stop.TheVariants.{NoMemory, Fault, WasTaken, WasEmpty, BadLine}
-use Rattle.pb_pair.proofs.Changes.{change_at, changes_from-none, changes_from-more}
-use Rattle.pb_pair.proofs.Pairs.{over-there, sides_few}
-
--- a device that tells its log tells its lines, and has all of them
-pub told_now : (device : Device) (tale : Tale) → IsReplay device → device.told ≡ Some tale → device.now ≡ Some (contents_of tale)
-told_now device tale replay told = subst (λ (o : Option Tale). IfSome o (λ t. device.now ≡ Some (contents t.base t.log))) told replay
-
-pub told_length : (device : Device) (tale : Tale) → IsWhole device → IsReplay device → device.told ≡ Some tale → length tale.base ≡ LINES
-told_length device tale whole replay told =
-    let long : length (contents_of tale) ≡ LINES = subst (λ (o : Option (List Line)). IfSome o (λ lines. length lines ≡ LINES)) (told_now device tale replay told) whole in
-    sym (length-contents tale.base tale.log) ∙ long
-
-pub told_after : (old new : Option Tale) (tale : Tale) (ops : List LogOp) → old ≡ Some tale → new ≡ option_map (with_ops ops) old → new ≡ Some (with_ops ops tale)
-told_after old new tale ops told grown = grown ∙ ap (option_map (with_ops ops)) told
+use Rattle.pb_pair.proofs.Pairs.{sides_few}
+use Rattle.pb_pair.proofs.Told.{told_now, whole_contents, told_length, told_after}
 
 -- Putting a cell
 
@@ -101,27 +89,6 @@ failed_put_covers old new position value free stops tale s told ready put =
 
 -- Storing
 
--- the writes of a store stay within the spare record
-changes_stage : (first count at : ℕ) (before lines : List Line) → first ≤ at → at + length lines ≤ first + count → All (IsStagingOp first count) (changes_from at before lines)
-changes_stage first count at before [] low high = subst (All (IsStagingOp first count)) (sym (changes_from-none at before)) (All-nil (IsStagingOp first count))
-changes_stage first count at before (line ∷ lines) low high =
-    subst (All (IsStagingOp first count)) (sym (changes_from-more at before line lines))
-    (All-append (IsStagingOp first count) (change_at at (line_at before 0) line) (changes_from (suc at) _ lines) (one (is_same (line_at before 0) line)) (changes_stage first count (suc at) _ lines (omega arith) (omega arith)))
-  where
-    one : (same : Bool) → All (IsStagingOp first count) (if same then [] else Whole at line ∷ [])
-    one true = All-nil (IsStagingOp first count)
-    one false = All-cons (IsStagingOp first count) (Whole at line) [] (low, omega arith) (All-nil (IsStagingOp first count))
-
-writes_stage : (first count at : ℕ) (lines : List Line) → first ≤ at → at + length lines ≤ first + count → All (IsStagingOp first count) (writes_from at lines)
-writes_stage first count at [] low high = subst (All (IsStagingOp first count)) (sym (writes_from-none at)) (All-nil (IsStagingOp first count))
-writes_stage first count at (line ∷ lines) low high =
-    subst (All (IsStagingOp first count)) (sym (writes_from-more at line lines))
-    (All-cons (IsStagingOp first count) (Whole at line) (writes_from (suc at) lines) (low, omega arith) (writes_stage first count (suc at) lines (omega arith) (omega arith)))
-
-over_stage : (first : ℕ) (spare : Option (List Line)) (lines : List Line) → All (IsStagingOp first (length lines)) (writes_over first spare lines)
-over_stage first None lines = writes_stage first (length lines) first lines (omega arith) (omega arith)
-over_stage first (Some before) lines = changes_stage first (length lines) first before lines (omega arith) (omega arith)
-
 -- the writes of this store
 abbrev writes_of : PairView → ℕ → List Line → List LogOp
 writes_of old side lines = writes_over (spare_place old.head side (round_of old side)) (side_of old side).spare lines
@@ -147,10 +114,7 @@ stages_at : (old : PairView) (side : ℕ) (lines : List Line) (s : Standing) (im
 stages_at old side lines s image sound full now of next =
     let few = sides_few old.head.kind side next.here in
     let place : spare_place old.head side (round_of old side) ≡ spare_place (header_for s) side (rounds_of s side) = λ i. spare_place (of.head i) side (of.rounds side few i) in
-    subst (λ (first : ℕ). StagesRecord first lines image (writes_of old side lines)) place (record {
-      all = over_stage (spare_place old.head side (round_of old side)) (side_of old side).spare lines;
-      there = over-there image (spare_place old.head side (round_of old side)) (side_of old side).spare lines before fits;
-    })
+    subst (λ (first : ℕ). StagesRecord first lines image (writes_of old side lines)) place (over_stages image (spare_place old.head side (round_of old side)) (side_of old side).spare lines before fits)
   where
     holds : HoldsSide old.head side (side_of old side) image
     holds = sound.holds image now side next.here
@@ -164,7 +128,7 @@ stages_at old side lines s image sound full now of next =
 
 stages_of : (old : PairView) (side : ℕ) (lines : List Line) (s : Standing) (tale : Tale) → IsPair old → IsWhole old.device → IsReplay old.device → old.device.told ≡ Some tale → IsPairOf old s → IsNext old side lines → StagesRecord (spare_place (header_for s) side (rounds_of s side)) lines (contents_of tale) (writes_of old side lines)
 stages_of old side lines s tale sound whole replay told of next =
-    stages_at old side lines s (contents_of tale) sound (length-contents tale.base tale.log ∙ told_length old.device tale whole replay told) (told_now old.device tale replay told) of next
+    stages_at old side lines s (contents_of tale) sound (whole_contents old.device tale whole replay told) (told_now old.device tale replay told) of next
 
 -- a store of a round, in the words of the laws
 store_by_of : (old : PairView) (side : ℕ) (lines : List Line) (s : Standing) (round : Round) (tale : Tale) → IsPair old → IsWhole old.device → IsReplay old.device → old.device.told ≡ Some tale → IsNext old side lines → IsStoreOf old side lines s round tale → IsStoreBy tale.base tale.log s round lines (writes_of old side lines)
@@ -276,7 +240,7 @@ round_after old s round side part doubt legal long few is =
     by (inr other) =
         other_round doubt.record_in_doubt side part doubt.called other ∙ (is ∙ sym (next_rounds_other s round side (λ e. other (doubt.side_is ∙ sym e))))
 
-settles_after : (old : PairView) (s : Standing) (round : Round) → IsDoubtOf old s round → IsLegalRound s round → length s.rounds ≡ side_count s.kind → settled_ops old ≡ settle_to (header_for s) (after_round s round)
+pub settles_after : (old : PairView) (s : Standing) (round : Round) → IsDoubtOf old s round → IsLegalRound s round → length s.rounds ≡ side_count s.kind → settled_ops old ≡ settle_to (header_for s) (after_round s round)
 settles_after old s round doubt legal long =
     let first = round_after old s round 0 old.first doubt legal long (omega arith) (doubt.of.rounds 0 (omega arith)) in
     let second = round_after old s round 1 old.second doubt legal long (omega arith) (doubt.of.rounds 1 (omega arith)) in
@@ -334,7 +298,7 @@ pub format_covers : (head : Header) (first second : List Line) (old new : Device
 format_covers head first second old new whole replay valid does empty tale told ready =
     told_exit (format_ops head first second) (told_after old.told new.told tale (format_ops head first second) told does.told) (makes_a_region tale.base tale.log head first second valid (told_length old tale whole replay told) empty ready)
 
-nothing_done : (head : Header) (old new : Device) (tale : Tale) → IsWhole old → IsReplay old → old.told ≡ Some tale → new.told ≡ old.told → IsReadyWith (None ∷ []) tale → IsCoveredExit tale new (empty_for head) [] (None ∷ [])
+pub nothing_done : (head : Header) (old new : Device) (tale : Tale) → IsWhole old → IsReplay old → old.told ≡ Some tale → new.told ≡ old.told → IsReadyWith (None ∷ []) tale → IsCoveredExit tale new (empty_for head) [] (None ∷ [])
 nothing_done head old new tale whole replay told same ready = record {
   ops = [];
   told = same ∙ (told ∙ ap (λ (l : List LogOp). Some (record tale { log = l })) (sym (append-nil tale.log)));

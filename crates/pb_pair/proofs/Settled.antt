@@ -11,6 +11,8 @@ use Rattle.pb_layout.specs.declared.header.Header.{Header}
 use Rattle.pb_layout.specs.Header.{record_length, word}
 use Rattle.pb_layout.specs.Record.{IsRecord}
 use Rattle.pb_layout.specs.RegionOps.{settle_ops}
+use Rattle.pb_layout.specs.Represents.{record_in_use}
+use Rattle.pb_layout.specs.ToldExits.{contents_of}
 use Rattle.pb_layout.proofs.OneStanding.{few_sides}
 use Rattle.pb_pair.specs.declared.known.Doubt.{Doubt}
 use Rattle.pb_pair.specs.declared.known.Known.{Known}
@@ -18,7 +20,8 @@ use Rattle.pb_pair.specs.declared.known.Known.TheVariants.{Sure}
 use Rattle.pb_pair.specs.declared.side.Side.{Side}
 use Rattle.pb_pair.specs.declared.side.Sides.{Sides}
 use Rattle.pb_pair.specs.Settle.{was_called, called_in, called_on, settled_by, settled_side, settled_ops, IsSettled}
-use Rattle.pb_pair.specs.View.{SideView, DoubtView, PairView, at_side, side_of, forgotten, side_view, doubt_view, pair_view, IsSide, HoldsSide, IsDoubt, IsPair}
+use Rattle.pb_pair.specs.View.{SideView, DoubtView, PairView, at_side, side_of, round_of, lines_of, forgotten, side_view, doubt_view, pair_view, IsSide, HoldsSide, IsDoubt, HoldsRecords, IsPair}
+use Rattle.pb_pair.proofs.HeldRecords.{SparesRecords, settle_spares, kept_where_told}
 
 both_true : (a b : Bool) → (a && b) ≡ true → (a ≡ true) × (b ≡ true)
 both_true true b e = (refl, e)
@@ -123,12 +126,38 @@ settled-none head first second (Some d) one in_doubt =
     by true false other = refl
     by false false other = refl
 
-pub settled_pair : (old : PairView) (device : Device) → IsPair old → old.known ≢ Sure → IsPair (settled_as old device)
-settled_pair old device sound unsure = record {
+-- the records that a settled pair has in use, where the device tells its log
+settled-held : (head : Header) (image : List Line) (doubt : Option DoubtView) (side : ℕ) (part : SideView) → record_in_use image head side part.round ≡ part.lines → ((d : DoubtView) → doubt ≡ Some d → d.called ≡ true → d.side ≡ side → record_in_use image head side (part.round + 1) ≡ d.lines) → record_in_use image head side (settled_side doubt side part).round ≡ (settled_side doubt side part).lines
+settled-held head image None side part in_use in_doubt = in_use
+settled-held head image (Some d) side part in_use in_doubt = by (d.called && (d.side == side)) (both_true d.called (d.side == side))
+  where
+    by : (called : Bool) → (called ≡ true → (d.called ≡ true) × ((d.side == side) ≡ true)) → record_in_use image head side (settled_by called d.lines part).round ≡ (settled_by called d.lines part).lines
+    by true tells = in_doubt d refl (tells refl).0 (same_number d.side side (tells refl).1)
+    by false tells = in_use
+
+settled_holds : (old : PairView) (device : Device) (image : List Line) → HoldsRecords old image → HoldsRecords (settled_as old device) image
+settled_holds old device image holds = record { in_use = in_use; in_doubt = λ doubt is called. absurd (cc) }
+  where
+    of_side : (side : ℕ) (d : DoubtView) → old.doubt ≡ Some d → d.called ≡ true → d.side ≡ side → record_in_use image old.head side (round_of old side + 1) ≡ d.lines
+    of_side side d is called same = subst (λ (n : ℕ). record_in_use image old.head n (round_of old n + 1) ≡ d.lines) same (holds.in_doubt d is called)
+
+    in_use : (side : ℕ) → side < side_count old.head.kind → record_in_use image old.head side (round_of (settled_as old device) side) ≡ lines_of (settled_as old device) side
+    in_use zero here = settled-held old.head image old.doubt 0 old.first (holds.in_use 0 here) (of_side 0)
+    in_use (suc side) here =
+        let low = few_sides old.head.kind in
+        let one : 1 ≡ suc side = omega arith in
+        subst (λ (n : ℕ). record_in_use image old.head n (settled_side old.doubt 1 old.second).round ≡ (settled_side old.doubt 1 old.second).lines) one (settled-held old.head image old.doubt 1 old.second (holds.in_use 1 (omega arith)) (of_side 1))
+
+pub settled_spares : (old : PairView) → SparesRecords old.head (settled_ops old)
+settled_spares old = settle_spares old.head (settled_side old.doubt 0 old.first).round (settled_side old.doubt 1 old.second).round
+
+pub settled_pair : (old : PairView) (device : Device) → IsPair old → old.known ≢ Sure → Does (settled_ops old) old.device device → IsPair (settled_as old device)
+settled_pair old device sound unsure does = record {
   valid = sound.valid;
   sides = sides;
   one_side = λ one. settled-none old.head old.first old.second old.doubt one sound.in_doubt ∙ sound.one_side one;
   holds = λ image now side here. holds image side;
+  records = λ tale told. settled_holds old device (contents_of tale) (kept_where_told old (settled_ops old) device sound does.told (settled_spares old) tale told);
   unsure_first = λ other. absurd (other refl);
   unsure_second = λ other. absurd (other refl);
   in_doubt = λ doubt e. absurd (cc);
@@ -153,7 +182,7 @@ pub record SettlesTo (device : Device) (head : Header) (sides : Sides) (known : 
 
 pub is_settled : (device new : Device) (head : Header) (sides : Sides) (known : Known) (doubt : Option Doubt) (first second : Side) → IsPair (pair_view device head sides known doubt) → known ≢ Sure → SettlesTo device head sides known doubt first second → Does (settled_ops (pair_view device head sides known doubt)) device new → IsSettled (pair_view device head sides known doubt) (pair_view new head (record { first = first; second = second }) Sure None)
 is_settled device new head sides known doubt first second sound unsure are does = record {
-  sound = subst IsPair (sym same) (settled_pair (pair_view device head sides known doubt) new sound unsure);
+  sound = subst IsPair (sym same) (settled_pair (pair_view device head sides known doubt) new sound unsure does);
   device = does;
   head = refl;
   first = are.first_is;

@@ -2,7 +2,7 @@
 use Rattle.std.specs.Prelude.{◌≡◌, ℕ, ◌<◌, List, None, IfSome}
 use Rattle.pb_pmem.specs.declared.device.DeviceFault.{DeviceFault}
 use Rattle.pb_pmem.specs.declared.line.Line.{Line}
-use Rattle.pb_pmem.specs.Device.{Device, Fails, IsNoOp}
+use Rattle.pb_pmem.specs.Device.{Device, Fails, IsNoOp, IsWhole}
 use Rattle.pb_object.specs.Standing.{side_count}
 use Rattle.pb_layout.specs.Damage.{HasRegion, AllPass, IsFirstNamed, opening_checks, header_in, round_in, record_in}
 use Rattle.pb_pair.specs.declared.known.Known.TheVariants.{Opened}
@@ -23,6 +23,7 @@ pub record IsReadFrom (pair : PairView) (image : List Line) : Type 0 where
 -- the pair of a device whose region was opened
 pub record IsOpened (device : Device) (pair : PairView) : Type 0 where
   pub sound : IsPair pair
+  pub whole : IsWhole device
   pub same : pair.device ≡ device
   pub read : IfSome device.now (IsReadFrom pair)
   pub known : pair.known ≡ Opened

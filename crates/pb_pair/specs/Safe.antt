@@ -12,7 +12,7 @@ use Rattle.pb_layout.specs.LogHistory.{AreSealed, history_of}
 use Rattle.pb_layout.specs.NextRecord.{IsNextRecord, HasCells}
 use Rattle.pb_layout.specs.Recovered.{Represents}
 use Rattle.pb_layout.specs.Represents.{header_for, object_parts}
-use Rattle.pb_layout.specs.ToldExits.{IsCoveredExit, HasPublished, IsInDoubt, contents_of, IsReadyWith}
+use Rattle.pb_layout.specs.ToldExits.{IsCoveredExit, HasPublished, IsInDoubt, AllSealed, StaysLanded, contents_of, IsReadyWith}
 use Rattle.pb_pair.specs.Settle.{was_called}
 use Rattle.pb_pair.specs.View.{DoubtView, PairView, round_of, lines_of}
 
@@ -86,10 +86,6 @@ pub record IsDoubtOf (pair : PairView) (s : Standing) (round : Round) : Type 0 w
   pub called : record_in_doubt.called ≡ true
   pub side_is : record_in_doubt.side ≡ round.side
 
--- all rounds that a log told before are sealed now
-abbrev pub AllSealed : Tale → Device → Type 0
-AllSealed tale new = IfSome new.told (λ after. (from : ℕ) → from ≤ length tale.log → AreSealed (history_of after.base after.log from))
-
 -- where no index word was called, settling leaves s alone, and tells no round; where one was called, it leaves the state after that
 -- round alone, and tells the round where the log didn't yet
 pub record SettleCovers (old : PairView) (new : Device) : Type 0 where
@@ -101,11 +97,6 @@ pub record SettleCovers (old : PairView) (new : Device) : Type 0 where
   pub landed : (tale : Tale) (s : Standing) (round : Round) → old.device.told ≡ Some tale → IsDoubtOf old s round → HasRoundLanded tale.base tale.log s round
       → IsCoveredExit tale new (after_round s round) [] (Some (after_round s round) ∷ [])
   pub sealed : (tale : Tale) → old.device.told ≡ Some tale → AllSealed tale new
-
--- the round has landed still
-pub record StaysLanded (tale : Tale) (new : Device) (s : Standing) (round : Round) : Type 0 where
-  pub left : IsCoveredExit tale new (after_round s round) [] (either_state s round)
-  pub still : IfSome new.told (λ after. HasRoundLanded after.base after.log s round)
 
 -- where settling failed, it leaves what the device might be found with before: it may be tried again
 pub record FailedSettleCovers (old : PairView) (new : Device) : Type 0 where

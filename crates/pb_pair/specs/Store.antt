@@ -1,47 +1,26 @@
 -- Storing a record.
-use Rattle.std.specs.Prelude.{◌≡◌, ℕ, suc, ◌+◌, ◌<◌, Bool, true, false, List, [], ◌∷◌, ◌++◌, drop, length, Option, Some, None, eqb, if◌then◌else◌}
-use Rattle.std.specs.Cmp.Lexicographic.{pointwise}
+use Rattle.std.specs.Prelude.{◌≡◌, ℕ, ◌+◌, ◌<◌, Bool, true, false, List, length, Option, Some, None}
 use Rattle.pb_pmem.specs.declared.device.DeviceFault.{DeviceFault}
 use Rattle.pb_pmem.specs.declared.line.Line.{Line}
 use Rattle.pb_pmem.specs.declared.log.LogOp.{LogOp}
-use Rattle.pb_pmem.specs.declared.log.LogOp.TheVariants.{Whole, Back, Fence}
 use Rattle.pb_pmem.specs.Device.{Device}
-use Rattle.pb_pmem.specs.Lines.{line_at}
-use Rattle.pb_pmem.specs.Operations.{writes_from, Does, Stops, IsFailedPrefix, IsFailedPrefixAfter}
+use Rattle.pb_pmem.specs.Operations.{Does, Stops, IsFailedPrefix, IsFailedPrefixAfter}
 use Rattle.pb_object.specs.Standing.{side_count}
 use Rattle.pb_layout.specs.declared.header.Header.{Header}
 use Rattle.pb_layout.specs.Header.{record_length}
 use Rattle.pb_layout.specs.Record.{IsRecord}
-use Rattle.pb_layout.specs.RegionOps.{commit_ops, spare_place}
+use Rattle.pb_layout.specs.RegionOps.{stage_over, store_over, commit_ops, spare_place}
 use Rattle.pb_pair.specs.declared.known.Known.TheVariants.{Sure}
 use Rattle.pb_pair.specs.declared.side.Sides.{Sides}
 use Rattle.pb_pair.specs.View.{SideView, DoubtView, PairView, IsPair, HasFailed, side_of, side_view, round_of, if_known, at_side, forgotten}
 
--- whether two lines have the same words
-abbrev pub is_same : Line → Line → Bool
-is_same a b = pointwise eqb a.words b.words
-
--- writes of those lines that differ from the ones that are there, in rising order, from a line on
-unfoldable pub changes_from : ℕ → List Line → List Line → List LogOp
-changes_from first before [] = []
-changes_from first before (line ∷ lines) =
-    (if is_same (line_at before 0) line then [] else Whole first line ∷ []) ++ changes_from (suc first) (drop 1 before) lines
-
--- writes of a record's lines: of those that differ from what is known to be there, and of all where nothing is known
-abbrev pub writes_over : ℕ → Option (List Line) → List Line → List LogOp
-writes_over first None lines = writes_from first lines
-writes_over first (Some before) lines = changes_from first before lines
-
 -- the lines are written where the side's spare record is, given to the device and fenced ..
-abbrev pub stage_over : ℕ → Option (List Line) → List Line → List LogOp
-stage_over first spare lines = writes_over first spare lines ++ Back first (length lines) ∷ Fence ∷ []
-
 abbrev pub staged_ops : Header → ℕ → SideView → List Line → List LogOp
 staged_ops head side part lines = stage_over (spare_place head side part.round) part.spare lines
 
 -- .. and then the side switches to them
 abbrev pub stored_ops : Header → ℕ → SideView → List Line → List LogOp
-stored_ops head side part lines = staged_ops head side part lines ++ commit_ops side (part.round + 1)
+stored_ops head side part lines = store_over head side part.round part.spare lines
 
 -- the side after a store: the lines are in use, and what was in use is spare
 abbrev pub stored_side : SideView → List Line → SideView

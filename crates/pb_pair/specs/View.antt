@@ -3,14 +3,15 @@ use Rattle.std.specs.Prelude.{◌≡◌, ◌≢◌, ℕ, zero, suc, ◌+◌, ◌
 use Rattle.pb_pmem.specs.declared.device.DeviceFault.{DeviceFault}
 use Rattle.pb_pmem.specs.declared.line.Line.{Line}
 use Rattle.pb_pmem.specs.declared.log.LogOp.{LogOp}
-use Rattle.pb_pmem.specs.Device.{Device}
+use Rattle.pb_pmem.specs.Device.{Device, Tale}
 use Rattle.pb_pmem.specs.Operations.{StopsBy}
 use Rattle.pb_object.specs.Standing.{side_count}
 use Rattle.pb_layout.specs.declared.header.Header.{Header}
 use Rattle.pb_layout.specs.Shape.{IsHeader}
 use Rattle.pb_layout.specs.Header.{record_length}
 use Rattle.pb_layout.specs.Record.{IsRecord}
-use Rattle.pb_layout.specs.Represents.{record_at}
+use Rattle.pb_layout.specs.Represents.{record_at, record_in_use}
+use Rattle.pb_layout.specs.ToldExits.{contents_of}
 use Rattle.pb_pair.specs.declared.known.Known.{Known}
 use Rattle.pb_pair.specs.declared.known.Known.TheVariants.{Sure, Failed}
 use Rattle.pb_pair.specs.declared.known.Doubt.{Doubt}
@@ -118,11 +119,19 @@ pub record IsDoubt (head : Header) (first second : SideView) (doubt : DoubtView)
   pub long : length doubt.lines ≡ record_length head
   pub own : IsRecord head doubt.side ((at_side first second doubt.side).round + 1) doubt.lines
 
+-- lines that hold a pair's records in use, and, where the index word of the record in doubt was called, that one as its side's next
+pub record HoldsRecords (pair : PairView) (image : List Line) : Type 0 where
+  pub in_use : (side : ℕ) → side < side_count pair.head.kind → record_in_use image pair.head side (round_of pair side) ≡ lines_of pair side
+  pub in_doubt : (doubt : DoubtView) → pair.doubt ≡ Some doubt → doubt.called ≡ true
+      → record_in_use image pair.head doubt.side (round_of pair doubt.side + 1) ≡ doubt.lines
+
 pub record IsPair (pair : PairView) : Type 0 where
   pub valid : IsHeader pair.head
   pub sides : (side : ℕ) → side < side_count pair.head.kind → IsSide pair.head side (side_of pair side)
   pub one_side : side_count pair.head.kind ≡ 1 → pair.second ≡ no_side
   pub holds : (image : List Line) → pair.device.now ≡ Some image → (side : ℕ) → side < side_count pair.head.kind → HoldsSide pair.head side (side_of pair side) image
+  -- a device that tells its log holds the records, whether the pair knows that or not
+  pub records : (tale : Tale) → pair.device.told ≡ Some tale → HoldsRecords pair (contents_of tale)
   -- a pair that isn't sure knows nothing of what the device's records hold, and has a record in doubt only after a call that failed
   pub unsure_first : pair.known ≢ Sure → pair.first ≡ forgotten pair.first
   pub unsure_second : pair.known ≢ Sure → pair.second ≡ forgotten pair.second

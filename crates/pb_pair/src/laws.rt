@@ -1,13 +1,14 @@
 //! What opening, storing and settling come to, one after the other. These functions are here for their contracts.
-ghost use Rattle.std.specs.Prelude.{◌≡◌, ◌⊎◌, ℕ, Option, Some, None, List, [], ◌∷◌, true, false};
+ghost use Rattle.std.specs.Prelude.{◌≡◌, ◌⊎◌, ℕ, ◌+◌, ◌<◌, Option, Some, None, List, [], ◌∷◌, true, false};
 ghost use Rattle.pb_pmem.specs.declared.device.DeviceFault.{DeviceFault};
 ghost use Rattle.pb_pmem.specs.declared.line.Line.{Line};
 ghost use Rattle.pb_pmem.specs.Device.{Device, Tale};
 ghost use Rattle.pb_pmem.specs.Operations.{IsFailedPrefix, Does, Stops};
 ghost use Rattle.pb_object.specs.History.{Round, IsLegalRound, after_round};
-ghost use Rattle.pb_object.specs.Standing.{Standing};
+ghost use Rattle.pb_object.specs.Standing.{Standing, side_count, rounds_of};
 ghost use Rattle.pb_layout.specs.Recovered.{Represents};
-ghost use Rattle.pb_layout.specs.ToldExits.{IsReadyWith, StaysFound};
+ghost use Rattle.pb_layout.specs.Represents.{header_for, record_in_use, record_of_side};
+ghost use Rattle.pb_layout.specs.ToldExits.{contents_of, IsReadyWith, StaysFound};
 ghost use Rattle.pb_pair.specs.declared.why.Why.{Why};
 ghost use Rattle.pb_pair.specs.declared.why.Why.TheVariants.{Memory, Device as DeviceWhy};
 ghost use Rattle.pb_pair.specs.Cells.{IsNothing, put_ops};
@@ -15,7 +16,7 @@ ghost use Rattle.pb_pair.specs.Open.{IsOpened, IsOpenRefusal};
 ghost use Rattle.pb_pair.specs.Safe.{IsPairOf, IsStoreOf, IsDoubtOf};
 ghost use Rattle.pb_pair.specs.Settle.{IsSettled, settled_ops, was_called};
 ghost use Rattle.pb_pair.specs.Store.{IsNext, IsStored, HasFailedStore};
-ghost use Rattle.pb_pair.specs.View.{PairView, HasFailed};
+ghost use Rattle.pb_pair.specs.View.{DoubtView, PairView, lines_of, IsPair, HasFailed};
 
 /// Opening refuses a device that represents a standing only for want of memory or by a fault.
 pub fn what_stands_is_opened()
@@ -33,6 +34,24 @@ pub fn opening_finds_what_stands()
         → device.now ≡ Some lines
         → Represents lines s
         → IsPairOf pair s }
+{}
+
+/// A device that tells its log holds the records in use of a pair, whatever the pair did last: they are those of the standing. And where
+/// the index word of a record in doubt was called, that is the spare record of its side.
+pub fn records_are_held()
+    ensures in_use { (pair : PairView) (s : Standing) (tale : Tale) (side : ℕ)
+        → IsPair pair
+        → IsPairOf pair s
+        → pair.device.told ≡ Some tale
+        → side < side_count pair.head.kind
+        → lines_of pair side ≡ record_of_side (contents_of tale) s side }
+    ensures in_doubt { (pair : PairView) (s : Standing) (tale : Tale) (doubt : DoubtView)
+        → IsPair pair
+        → IsPairOf pair s
+        → pair.device.told ≡ Some tale
+        → pair.doubt ≡ Some doubt
+        → doubt.called ≡ true
+        → doubt.lines ≡ record_in_use (contents_of tale) (header_for s) doubt.side (rounds_of s doubt.side + 1) }
 {}
 
 /// Settling such a pair, wherever it stops, leaves each image representing that standing: so opening may be stopped and repeated.

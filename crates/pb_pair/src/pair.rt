@@ -88,8 +88,8 @@ impl<P: Pmem> Pair<P> {
     /// Reads the region of a device, and writes nothing. The pair isn't sure until it is settled.
     ///
     /// Each refusal leaves the device's log as it was. `NoRegion` comes only where the first word isn't the magic, and `Damaged` with the
-    /// first line that the format refuses before the object's lines; an Ok comes where neither is so. `Memory` and `Device` come where memory ran out
-    /// or a read failed.
+    /// first line that the format refuses before the object's lines; an Ok comes where neither is so. `Memory` and `Device` come where
+    /// memory ran out or a read failed.
     pub fn open(alloc: Global, mut device: P) -> Result<Pair<P>, Refused<P>>
         ensures ok { IfOk result (IsOpened (P.seen device)) }
         ensures err { IfErr result

@@ -2,8 +2,7 @@
 ghost use Rattle.std.specs.Prelude.{◌≡◌, not, ◌+◌, ◌<◌, ◌≤◌, ◌++◌, length, OnOk, OnErr};
 ghost use Rattle.pb_pmem.specs.declared.line.TheConstants.{LINES};
 ghost use Rattle.pb_pmem.specs.Operations.{IsFailedPrefix, Does, Stops};
-ghost use Rattle.pb_layout.specs.RegionOps.{commit_ops};
-ghost use Rattle.pb_pair.specs.Store.{is_same, changes_from, writes_over, stage_over};
+ghost use Rattle.pb_layout.specs.RegionOps.{is_same, changes_from, writes_over, stage_over, commit_ops};
 ghost use Rattle.pb_pair.specs.View.{if_known};
 
 use pb_pmem::{Line, LogOp, Pmem, PmemFault, make, make_all, write_lines};

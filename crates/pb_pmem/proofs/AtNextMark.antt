@@ -1,5 +1,5 @@
 -- The contents are among what a mark would settle, that among what the greatest cut allows, and that among what a crash may leave.
-use Rattle.std.proofs.Common.{◌≡◌, ℕ, ◌⊎◌, Bool, true, false, List, [], ◌∷◌, Some, None, MatchBool, ap, subst, sym, refl, ◌∙◌, inl, inr}
+use Rattle.std.proofs.Common.{◌≡◌, ℕ, ◌⊎◌, Bool, true, false, List, [], ◌∷◌, Option, Some, None, MatchBool, ap, subst, sym, refl, ◌∙◌, inl, inr}
 use Rattle.std.proofs.lemmas.Bool.{cases_Bool, false≢true}
 use Rattle.pb_pmem.specs.declared.line.Line.{Line}
 use Rattle.pb_pmem.specs.declared.log.LogOp.{LogOp}
@@ -25,19 +25,26 @@ MatchBool-false P Q false e h = h
 
 -- The kinds of operations
 
+-- a test that holds of no write
+pub test_fails : (test : LogOp → Bool) → ((line : ℕ) (to : Line) → test (Whole line to) ≡ false) → ((line word to : ℕ) → test (Word line word to) ≡ false) → (op : LogOp) (at : ℕ) → line_written op ≡ Some at → test op ≡ false
+test_fails test whole part (Whole line to) at e = whole line to
+test_fails test whole part (Word line word to) at e = part line word to
+test_fails test whole part (Back first count) at e = cc
+test_fails test whole part Fence at e = cc
+test_fails test whole part Sync at e = cc
+
+test-writes_none : (test : LogOp → Bool) → ((line : ℕ) (to : Line) → test (Whole line to) ≡ false) → ((line word to : ℕ) → test (Word line word to) ≡ false) → (op : LogOp) → test op ≡ true → line_written op ≡ None
+test-writes_none test whole part op e = go (line_written op) (test_fails test whole part op)
+  where
+    go : (written : Option ℕ) → ((at : ℕ) → written ≡ Some at → test op ≡ false) → written ≡ None
+    go None fails = refl
+    go (Some at) fails = absurd (false≢true (sym (fails at refl) ∙ e))
+
 pub Back-writes_none : (line : ℕ) (op : LogOp) → is_back_of line op ≡ true → line_written op ≡ None
-Back-writes_none line (Whole at to) e = cc
-Back-writes_none line (Word at word to) e = cc
-Back-writes_none line (Back first count) e = refl
-Back-writes_none line Fence e = refl
-Back-writes_none line Sync e = refl
+Back-writes_none line op e = test-writes_none (is_back_of line) (λ at to. refl) (λ at word to. refl) op e
 
 pub mark-writes_none : (op : LogOp) → is_mark op ≡ true → line_written op ≡ None
-mark-writes_none (Whole at to) e = cc
-mark-writes_none (Word at word to) e = cc
-mark-writes_none (Back first count) e = refl
-mark-writes_none Fence e = refl
-mark-writes_none Sync e = refl
+mark-writes_none op e = test-writes_none is_mark (λ line to. refl) (λ line word to. refl) op e
 
 pub mark-no_Back : (line : ℕ) (op : LogOp) → is_mark op ≡ true → is_back_of line op ≡ false
 mark-no_Back line (Whole at to) e = refl

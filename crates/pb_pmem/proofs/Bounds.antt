@@ -5,83 +5,72 @@ use Rattle.std.proofs.lemmas.Bool.Decides.{eqb_tells}
 use Rattle.std.proofs.Math.Path.{fun_ext}
 use Rattle.pb_pmem.specs.declared.line.Line.{Line}
 use Rattle.pb_pmem.specs.declared.log.LogOp.{LogOp}
-use Rattle.pb_pmem.specs.declared.log.LogOp.TheVariants.{Whole, Word, Back, Fence, Sync}
+use Rattle.pb_pmem.specs.declared.log.LogOp.TheVariants.{Back, Fence, Sync}
 use Rattle.pb_pmem.specs.Contents.{applied}
 use Rattle.pb_pmem.specs.Crash.{is_mark, is_sync, is_back_of, line_written, MayWrite}
 use Rattle.pb_pmem.specs.Lines.{word_of}
 use Rattle.pb_pmem.specs.Past.{Words, now, AtNextMark, Last, AllAtNextMark, AllLast, Leaves, writes_line, is_clean, DiffersBy, IsGiven, Bounds}
-use Rattle.pb_pmem.proofs.AtNextMark.{Back-writes_none, MayWrite-writes, AtNextMark-cases, AtNextMark-at_none, AtNextMark-now, Last-cases, Last-at_none, Last-now, Leaves-cases, Leaves-at_none, Leaves-AtNextMark, Leaves-Last}
+use Rattle.pb_pmem.proofs.AtNextMark.{test_fails, Back-writes_none, MayWrite-writes, AtNextMark-cases, AtNextMark-at_none, AtNextMark-now, Last-cases, Last-at_none, Last-now, Leaves-cases, Leaves-at_none, Leaves-AtNextMark, Leaves-Last}
 use Rattle.pb_pmem.proofs.Words.{applied-none, line_at-applied_other, now-none, now-more}
 
 -- a write is no mark and no `Back`
 write-no_mark : (op : LogOp) (at : ℕ) → line_written op ≡ Some at → is_mark op ≡ false
-write-no_mark (Whole line to) at e = refl
-write-no_mark (Word line word to) at e = refl
-write-no_mark (Back first count) at e = refl
-write-no_mark Fence at e = cc
-write-no_mark Sync at e = cc
+write-no_mark op at e = test_fails is_mark (λ line to. refl) (λ line place to. refl) op at e
 
 write-no_sync : (op : LogOp) (at : ℕ) → line_written op ≡ Some at → is_sync op ≡ false
-write-no_sync (Whole line to) at e = refl
-write-no_sync (Word line word to) at e = refl
-write-no_sync (Back first count) at e = refl
-write-no_sync Fence at e = refl
-write-no_sync Sync at e = cc
+write-no_sync op at e = test_fails is_sync (λ line to. refl) (λ line place to. refl) op at e
 
 write-no_Back : (op : LogOp) (at line : ℕ) → line_written op ≡ Some at → is_back_of line op ≡ false
-write-no_Back (Whole at' to) at line e = refl
-write-no_Back (Word at' word to) at line e = refl
-write-no_Back (Back first count) at line e = cc
-write-no_Back Fence at line e = refl
-write-no_Back Sync at line e = refl
+write-no_Back op at line e = test_fails (is_back_of line) (λ at to. refl) (λ at place to. refl) op at e
 
--- an image at the greatest cut comes from one before, which differs only where the operation may have written
-pub Last-before : (base : List Line) (op : LogOp) (past : List LogOp) (image : Words) → is_mark op ≡ false → AllLast base (op ∷ past) image → (before : Words) × AllLast base past before × DiffersBy op before image
+-- an image of which each word is what an operation may write, or is allowed before it, comes from an allowed one that differs from it
+-- only where the operation may have written
+unwritten : (Allowed : ℕ → ℕ → ℕ → Type 0) (held : Words) (op : LogOp) (image : Words) → ((line word : ℕ) → Allowed line word (held line word))
+    → ((line word : ℕ) → MayWrite line word (image line word) op ⊎ Allowed line word (image line word))
+    → (before : Words) × ((line word : ℕ) → Allowed line word (before line word)) × DiffersBy op before image
+unwritten Allowed held op image held_allowed at =
+    ((λ line word. before line word (at line word)), (λ line word. allowed line word (at line word)), (λ line word. differs line word (at line word)))
+  where
+    before : (line word : ℕ) → MayWrite line word (image line word) op ⊎ Allowed line word (image line word) → ℕ
+    before line word (inl written) = held line word
+    before line word (inr there) = image line word
+
+    allowed : (line word : ℕ) (s : MayWrite line word (image line word) op ⊎ Allowed line word (image line word)) → Allowed line word (before line word s)
+    allowed line word (inl written) = held_allowed line word
+    allowed line word (inr there) = there
+
+    differs : (line word : ℕ) (s : MayWrite line word (image line word) op ⊎ Allowed line word (image line word))
+        → (image line word ≡ before line word s) ⊎ MayWrite line word (image line word) op
+    differs line word (inl written) = inr written
+    differs line word (inr there) = inl refl
+
+-- so does one at the greatest cut
+pub Last-before : (base : List Line) (op : LogOp) (past : List LogOp) (image : Words) → is_mark op ≡ false → AllLast base (op ∷ past) image
+    → (before : Words) × AllLast base past before × DiffersBy op before image
 Last-before base op past image other h =
-    ((λ line word. before line word (at line word)), (λ line word. allowed line word (at line word)), (λ line word. differs line word (at line word)))
+    unwritten (Last base past) (word_of (now base past)) op image (Last-now base past) at
   where
+    go : (line word : ℕ) → ((is_mark op ≡ true) × AtNextMark base past line word (image line word)) ⊎ ((is_mark op ≡ false) × (MayWrite line word (image line word) op ⊎ Last base past line word (image line word)))
+        → MayWrite line word (image line word) op ⊎ Last base past line word (image line word)
+    go line word (inl (mark, at_next_mark)) = absurd (false≢true (sym other ∙ mark))
+    go line word (inr (no_mark, last)) = last
+
     at : (line word : ℕ) → MayWrite line word (image line word) op ⊎ Last base past line word (image line word)
-    at line word = go (Last-cases base op past line word (image line word) (h line word))
-      where
-        go : ((is_mark op ≡ true) × AtNextMark base past line word (image line word)) ⊎ ((is_mark op ≡ false) × (MayWrite line word (image line word) op ⊎ Last base past line word (image line word))) → MayWrite line word (image line word) op ⊎ Last base past line word (image line word)
-        go (inl (mark, at_next_mark)) = absurd (false≢true (sym other ∙ mark))
-        go (inr (no_mark, last)) = last
+    at line word = go line word (Last-cases base op past line word (image line word) (h line word))
 
-    before : (line word : ℕ) → MayWrite line word (image line word) op ⊎ Last base past line word (image line word) → ℕ
-    before line word (inl written) = word_of (now base past) line word
-    before line word (inr last) = image line word
-
-    allowed : (line word : ℕ) (s : MayWrite line word (image line word) op ⊎ Last base past line word (image line word)) → Last base past line word (before line word s)
-    allowed line word (inl written) = Last-now base past line word
-    allowed line word (inr last) = last
-
-    differs : (line word : ℕ) (s : MayWrite line word (image line word) op ⊎ Last base past line word (image line word)) → (image line word ≡ before line word s) ⊎ MayWrite line word (image line word) op
-    differs line word (inl written) = inr written
-    differs line word (inr last) = inl refl
-
--- the same of what a mark would settle, after a write
-pub AtNextMark-before : (base : List Line) (op : LogOp) (past : List LogOp) (image : Words) → ((line : ℕ) → is_back_of line op ≡ false) → AllAtNextMark base (op ∷ past) image → (before : Words) × AllAtNextMark base past before × DiffersBy op before image
+-- and what a mark would settle, after an operation that gives no line
+pub AtNextMark-before : (base : List Line) (op : LogOp) (past : List LogOp) (image : Words) → ((line : ℕ) → is_back_of line op ≡ false) → AllAtNextMark base (op ∷ past) image
+    → (before : Words) × AllAtNextMark base past before × DiffersBy op before image
 AtNextMark-before base op past image other h =
-    ((λ line word. before line word (at line word)), (λ line word. allowed line word (at line word)), (λ line word. differs line word (at line word)))
+    unwritten (AtNextMark base past) (word_of (now base past)) op image (AtNextMark-now base past) at
   where
+    go : (line word : ℕ) → ((is_back_of line op ≡ true) × (image line word ≡ word_of (now base past) line word)) ⊎ ((is_back_of line op ≡ false) × (MayWrite line word (image line word) op ⊎ AtNextMark base past line word (image line word)))
+        → MayWrite line word (image line word) op ⊎ AtNextMark base past line word (image line word)
+    go line word (inl (back, same)) = absurd (false≢true (sym (other line) ∙ back))
+    go line word (inr (no_back, at_next_mark)) = at_next_mark
+
     at : (line word : ℕ) → MayWrite line word (image line word) op ⊎ AtNextMark base past line word (image line word)
-    at line word = go (AtNextMark-cases base op past line word (image line word) (h line word))
-      where
-        go : ((is_back_of line op ≡ true) × (image line word ≡ word_of (now base past) line word)) ⊎ ((is_back_of line op ≡ false) × (MayWrite line word (image line word) op ⊎ AtNextMark base past line word (image line word))) → MayWrite line word (image line word) op ⊎ AtNextMark base past line word (image line word)
-        go (inl (back, same)) = absurd (false≢true (sym (other line) ∙ back))
-        go (inr (no_back, at_next_mark)) = at_next_mark
-
-    before : (line word : ℕ) → MayWrite line word (image line word) op ⊎ AtNextMark base past line word (image line word) → ℕ
-    before line word (inl written) = word_of (now base past) line word
-    before line word (inr at_next_mark) = image line word
-
-    allowed : (line word : ℕ) (s : MayWrite line word (image line word) op ⊎ AtNextMark base past line word (image line word)) → AtNextMark base past line word (before line word s)
-    allowed line word (inl written) = AtNextMark-now base past line word
-    allowed line word (inr at_next_mark) = at_next_mark
-
-    differs : (line word : ℕ) (s : MayWrite line word (image line word) op ⊎ AtNextMark base past line word (image line word)) → (image line word ≡ before line word s) ⊎ MayWrite line word (image line word) op
-    differs line word (inl written) = inr written
-    differs line word (inr at_next_mark) = inl refl
+    at line word = go line word (AtNextMark-cases base op past line word (image line word) (h line word))
 
 -- a `Back` takes nothing away at the greatest cut
 pub Last-after_Back : (base : List Line) (first count : ℕ) (past : List LogOp) (image : Words) → AllLast base (Back first count ∷ past) image → AllLast base past image

@@ -26,19 +26,30 @@ marks_push_mark log op e = rw (marks-append, marks-first, e, marks-none) (omega 
 pub marks_push_other : (log : List LogOp) (op : LogOp) → is_mark op ≡ false → marks (log ++ op ∷ []) ≡ marks log
 marks_push_other log op e = rw (marks-append, marks-first, e, marks-none) (omega arith)
 
--- what stands up to a mark stays, whatever comes after the log
-pub through_mark-append : (cut : ℕ) (log more : List LogOp) → cut ≤ marks log → through_mark cut (log ++ more) ≡ through_mark cut log
-unfolding marks through_mark
-through_mark-append zero [] [] few = refl
-through_mark-append zero [] (op ∷ more) few = refl
-through_mark-append (suc cut) [] more few = absurd (omega arith)
-through_mark-append zero (op ∷ log) more few = refl
-through_mark-append (suc cut) (op ∷ log) more few =
-    ap (λ l. op ∷ l) (go (is_mark op) few (through_mark-append cut log more) (through_mark-append (suc cut) log more))
+-- what stands up to a mark stays, whatever comes after the log, and that comes after what stands behind it
+mark_parts-append : (cut : ℕ) (log more : List LogOp) → cut ≤ marks log
+    → (through_mark cut (log ++ more) ≡ through_mark cut log) × (after_mark cut (log ++ more) ≡ after_mark cut log ++ more)
+unfolding marks through_mark after_mark
+mark_parts-append zero [] [] few = (refl, refl)
+mark_parts-append zero [] (op ∷ more) few = (refl, refl)
+mark_parts-append (suc cut) [] more few = absurd (omega arith)
+mark_parts-append zero (op ∷ log) more few = (refl, refl)
+mark_parts-append (suc cut) (op ∷ log) more few =
+    let parts = go (is_mark op) few (mark_parts-append cut log more) (mark_parts-append (suc cut) log more) in
+    (ap (λ l. op ∷ l) parts.0, parts.1)
   where
-    go : (b : Bool) → suc cut ≤ cond b 1 0 + marks log → (cut ≤ marks log → through_mark cut (log ++ more) ≡ through_mark cut log) → (suc cut ≤ marks log → through_mark (suc cut) (log ++ more) ≡ through_mark (suc cut) log) → through_mark (cond b cut (suc cut)) (log ++ more) ≡ through_mark (cond b cut (suc cut)) log
+    go : (b : Bool) → suc cut ≤ cond b 1 0 + marks log
+        → (cut ≤ marks log → (through_mark cut (log ++ more) ≡ through_mark cut log) × (after_mark cut (log ++ more) ≡ after_mark cut log ++ more))
+        → (suc cut ≤ marks log → (through_mark (suc cut) (log ++ more) ≡ through_mark (suc cut) log) × (after_mark (suc cut) (log ++ more) ≡ after_mark (suc cut) log ++ more))
+        → (through_mark (cond b cut (suc cut)) (log ++ more) ≡ through_mark (cond b cut (suc cut)) log) × (after_mark (cond b cut (suc cut)) (log ++ more) ≡ after_mark (cond b cut (suc cut)) log ++ more)
     go true few at_mark at_other = at_mark (omega arith)
     go false few at_mark at_other = at_other (omega arith)
+
+pub through_mark-append : (cut : ℕ) (log more : List LogOp) → cut ≤ marks log → through_mark cut (log ++ more) ≡ through_mark cut log
+through_mark-append cut log more few = (mark_parts-append cut log more few).0
+
+pub after_mark-append : (cut : ℕ) (log more : List LogOp) → cut ≤ marks log → after_mark cut (log ++ more) ≡ after_mark cut log ++ more
+after_mark-append cut log more few = (mark_parts-append cut log more few).1
 
 -- a cut that the log hasn't reached takes it whole
 pub through_mark-all : (cut : ℕ) (log : List LogOp) → marks log < cut → through_mark cut log ≡ log
@@ -49,19 +60,6 @@ through_mark-all (suc cut) (op ∷ log) few =
     ap (λ l. op ∷ l) (go (is_mark op) few (through_mark-all cut log) (through_mark-all (suc cut) log))
   where
     go : (b : Bool) → cond b 1 0 + marks log < suc cut → (marks log < cut → through_mark cut log ≡ log) → (marks log < suc cut → through_mark (suc cut) log ≡ log) → through_mark (cond b cut (suc cut)) log ≡ log
-    go true few at_mark at_other = at_mark (omega arith)
-    go false few at_mark at_other = at_other (omega arith)
-
-pub after_mark-append : (cut : ℕ) (log more : List LogOp) → cut ≤ marks log → after_mark cut (log ++ more) ≡ after_mark cut log ++ more
-unfolding marks after_mark
-after_mark-append zero [] [] few = refl
-after_mark-append zero [] (op ∷ more) few = refl
-after_mark-append (suc cut) [] more few = absurd (omega arith)
-after_mark-append zero (op ∷ log) more few = refl
-after_mark-append (suc cut) (op ∷ log) more few =
-    go (is_mark op) few (after_mark-append cut log more) (after_mark-append (suc cut) log more)
-  where
-    go : (b : Bool) → suc cut ≤ cond b 1 0 + marks log → (cut ≤ marks log → after_mark cut (log ++ more) ≡ after_mark cut log ++ more) → (suc cut ≤ marks log → after_mark (suc cut) (log ++ more) ≡ after_mark (suc cut) log ++ more) → after_mark (cond b cut (suc cut)) (log ++ more) ≡ after_mark (cond b cut (suc cut)) log ++ more
     go true few at_mark at_other = at_mark (omega arith)
     go false few at_mark at_other = at_other (omega arith)
 

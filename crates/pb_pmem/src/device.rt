@@ -20,7 +20,8 @@ pub struct DeviceFault {
 /// A device of [`LINES`] lines, as persistent memory is one.
 ///
 /// A contract sees it as a `Device`: its base and its log where it tells them, its lines where it tells them, and its count of faults.
-/// An answer Ok leaves the count as it was, and an error comes only where the count rose in that call, or stood at its last value. The base never changes.
+/// An answer Ok leaves the count as it was, and an error comes only where the count rose in that call, or stood at its
+/// last value. The base never changes.
 pub trait Pmem: Drop {
     /// What contracts see of the device.
     ghost seen: { Self → Device };

@@ -2,5 +2,4 @@ mod AgreeLemmas
 mod EntryLemmas
 pub mod GoingOn
 mod PieceLemmas
-mod ReportLemmas
 mod TextLemmas

@@ -17,6 +17,7 @@ use Rattle.pb_object.specs.declared.request.Op.{Op}
 use Rattle.pb_object.specs.declared.request.Reply.{Reply}
 use Rattle.pb_object.specs.Codes.{action_of, answer_code, answer_of, answer_word, value_count}
 use Rattle.pb_object.specs.Text.{spaced, reply_text, reply_text_by}
+use Rattle.pb_object.proofs.CodeLemmas.{told_apart}
 use Rattle.pb_report.specs.declared.outcome.Outcome.{Outcome}
 use Rattle.pb_report.specs.declared.outcome.Outcome.TheVariants.{New, Kept, Old, Gap, Changed, Doubt, Left}
 use Rattle.pb_report.specs.Laws.{LeavesZero, IsPlainReply, IsPlainOutcome, ArePlain}
@@ -104,11 +105,7 @@ answer_named-word Size = refl
 answer_named-word At = refl
 
 one_answer : (first second : Answer) → answer_word first ≡ answer_word second → first ≡ second
-one_answer first second e =
-    let left = answer_named-word first in
-    let right = answer_named-word second in
-    let same = ap answer_named e in
-    cc
+one_answer = told_apart answer_word answer_named answer_named-word
 
 word_from_tests : (word : List ℕ) → list_all (leb 33) word ≡ true → IsWord word
 word_from_tests word bytes = All-weaker (λ byte. leb 33 byte ≡ true) (λ byte. 33 ≤ byte) (leb-true 33) word (AllPass-from_list_all (leb 33) word bytes)

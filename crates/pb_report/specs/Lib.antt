@@ -2,5 +2,4 @@ pub mod Laws
 pub mod OutcomeText
 pub mod Outcomes
 pub mod Pieces
-pub mod ReportText
 pub mod SummaryText

@@ -12,3 +12,7 @@ pub record Passes (old new : Option (List ℕ)) (before after text : List ℕ) :
 unfoldable pub joined : (ℕ → List ℕ) → ℕ → List ℕ
 joined line zero = []
 joined line (suc count) = joined line count ++ line count
+
+-- a first text, and the first so many of these lines
+unfoldable pub section_of : List ℕ → (ℕ → List ℕ) → ℕ → List ℕ
+section_of first line count = first ++ joined line count

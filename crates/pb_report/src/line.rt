@@ -7,10 +7,10 @@ use arrayvec::ArrayString;
 use itoa::Buffer;
 use pb_object::{Action, Answer, Op, Reply};
 
-/// The most bytes of a line: the longest is of a client's kept request, with 154.
+/// The most bytes of a text that is made in place. The longest line is of a client's kept request, with 154.
 pub const LINE: usize = 256;
 
-/// A line, or the lines of a report's head.
+/// A line, or a few lines.
 pub type Text = ArrayString<LINE>;
 
 /// Puts a number after the text.
@@ -33,7 +33,7 @@ pub fn push_spaced(text: &mut Text, number: u64)
     push_number(text, number);
 }
 
-/// Puts an operation after the text, in its script form.
+/// Puts an operation after the text, in its script form. Nothing is put of what has no operation's code.
 pub fn push_op(text: &mut Text, op: &Op)
     requires { array_string_len text.old + 72 ≤ LINE }
     ensures text { text.new.bytes ≡ text.old.bytes ++ op_text op.now }
@@ -58,7 +58,7 @@ pub fn push_op(text: &mut Text, op: &Op)
     }
 }
 
-/// Puts the reply to an operation after the text.
+/// Puts the reply to an operation after the text. Nothing is put where one of the two has no code.
 pub fn push_reply(text: &mut Text, op: &Op, reply: &Reply)
     requires { array_string_len text.old + 47 ≤ LINE }
     ensures text { text.new.bytes ≡ text.old.bytes ++ reply_text op.now reply.now }

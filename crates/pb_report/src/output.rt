@@ -3,17 +3,17 @@ ghost use Rattle.std.specs.Prelude.{◌≡◌, ◌<◌, ◌≤◌, ◌++◌, len
 ghost use Rattle.std.specs.Io.KnownBytes.{Appends};
 ghost use Rattle.pb_pmem.specs.Count.{HasCause};
 ghost use Rattle.pb_io.specs.SinkBytes.{AppendsSome};
-ghost use Rattle.pb_report.specs.Pieces.{Passes, joined};
+ghost use Rattle.pb_report.specs.Pieces.{Passes, joined, section_of};
 
 use crate::line::Text;
 use arrayvec::ArrayVec;
 use pb_io::{Sink, SinkFault};
 
-/// How many bytes leave at once.
-pub const PIECE: usize = 8192;
+// How many bytes leave at once.
+const PIECE: usize = 8192;
 
-/// Bytes that haven't left yet.
-pub type Pending = ArrayVec<u8, PIECE>;
+// Bytes that haven't left yet.
+type Pending = ArrayVec<u8, PIECE>;
 
 /// Lines of a text, each made when it is asked for.
 pub trait Lines {
@@ -25,9 +25,11 @@ pub trait Lines {
     /// The line at a place.
     ghost line_at: { Self → ℕ → List ℕ };
 
+    /// How many lines there are.
     fn count(&self) -> usize
         ensures { result ≡ line_count self.now };
 
+    /// The line at a place.
     fn line(&self, place: usize) -> Text
         requires { place < line_count self.now }
         ensures { result.bytes ≡ line_at self.now place };
@@ -46,8 +48,8 @@ pub fn send<K: Sink>(sink: &mut K, bytes: &[u8]) -> Result<(), SinkFault>
     Ok(())
 }
 
-/// Puts a line after what is pending, and lets that go first where there is no room.
-pub fn put<K: Sink>(sink: &mut K, pending: &mut Pending, text: &Text) -> Result<(), SinkFault>
+// Puts a line after what is pending, and lets that go first where there is no room.
+fn put<K: Sink>(sink: &mut K, pending: &mut Pending, text: &Text) -> Result<(), SinkFault>
     ensures ok { OnOk result (Passes (K.bytes sink.old) (K.bytes sink.new) pending.old.items pending.new.items text.now.bytes) }
     ensures err { OnErr result (AppendsSome (K.bytes sink.old) (K.bytes sink.new) pending.old.items) }
     ensures cause { HasCause (K.fault_count sink.old) (K.fault_count sink.new) result }
@@ -61,14 +63,16 @@ pub fn put<K: Sink>(sink: &mut K, pending: &mut Pending, text: &Text) -> Result<
     Ok(())
 }
 
-/// Puts lines after what is pending.
-pub fn put_lines<K: Sink, L: Lines>(
+// Puts lines after what is pending.
+fn put_lines<K: Sink, L: Lines>(
     sink: &mut K,
     pending: &mut Pending,
     lines: &L,
 ) -> Result<(), SinkFault>
-    ensures ok { OnOk result (Passes (K.bytes sink.old) (K.bytes sink.new) pending.old.items pending.new.items (joined (L.line_at lines.now) (L.line_count lines.now))) }
-    ensures err { OnErr result (AppendsSome (K.bytes sink.old) (K.bytes sink.new) (pending.old.items ++ joined (L.line_at lines.now) (L.line_count lines.now))) }
+    ensures ok { let text = joined (L.line_at lines.now) (L.line_count lines.now) in
+        OnOk result (Passes (K.bytes sink.old) (K.bytes sink.new) pending.old.items pending.new.items text) }
+    ensures err { let text = joined (L.line_at lines.now) (L.line_count lines.now) in
+        OnErr result (AppendsSome (K.bytes sink.old) (K.bytes sink.new) (pending.old.items ++ text)) }
     ensures cause { HasCause (K.fault_count sink.old) (K.fault_count sink.new) result }
 {
     for place in 0..lines.count() {
@@ -78,7 +82,7 @@ pub fn put_lines<K: Sink, L: Lines>(
     Ok(())
 }
 
-/// Writes lines.
+/// Writes lines, one after the other. After an error some of the first bytes of the text are written.
 pub fn write_lines<K: Sink, L: Lines>(sink: &mut K, lines: &L) -> Result<(), SinkFault>
     ensures ok { OnOk result (Appends (K.bytes sink.old) (K.bytes sink.new) (joined (L.line_at lines.now) (L.line_count lines.now))) }
     ensures err { OnErr result (AppendsSome (K.bytes sink.old) (K.bytes sink.new) (joined (L.line_at lines.now) (L.line_count lines.now))) }
@@ -87,4 +91,45 @@ pub fn write_lines<K: Sink, L: Lines>(sink: &mut K, lines: &L) -> Result<(), Sin
     let mut pending = Pending::new();
     put_lines(sink, &mut pending, lines)?;
     send(sink, pending.as_slice())
+}
+
+/// Writes two sections, each of them a first text and the lines that it stands above. After an error some of the first bytes of both are
+/// written.
+pub fn write_sections<K: Sink, A: Lines, B: Lines>(
+    sink: &mut K,
+    first: &Text,
+    first_lines: &A,
+    second: &Text,
+    second_lines: &B,
+) -> Result<(), SinkFault>
+    ensures ok { OnOk result (Appends (K.bytes sink.old) (K.bytes sink.new)
+        (section_of first.now.bytes (A.line_at first_lines.now) (A.line_count first_lines.now)
+        ++ section_of second.now.bytes (B.line_at second_lines.now) (B.line_count second_lines.now))) }
+    ensures err { OnErr result (AppendsSome (K.bytes sink.old) (K.bytes sink.new)
+        (section_of first.now.bytes (A.line_at first_lines.now) (A.line_count first_lines.now)
+        ++ section_of second.now.bytes (B.line_at second_lines.now) (B.line_count second_lines.now))) }
+    ensures cause { HasCause (K.fault_count sink.old) (K.fault_count sink.new) result }
+{
+    let mut pending = Pending::new();
+    put_section(sink, &mut pending, first, first_lines)?;
+    put_section(sink, &mut pending, second, second_lines)?;
+    send(sink, pending.as_slice())
+}
+
+// Puts a first text, and the lines that it stands above, after what is pending.
+#[tactic(auto, unfolding(crate::specs::Pieces::section_of))]
+fn put_section<K: Sink, L: Lines>(
+    sink: &mut K,
+    pending: &mut Pending,
+    first: &Text,
+    lines: &L,
+) -> Result<(), SinkFault>
+    ensures ok { let text = section_of first.now.bytes (L.line_at lines.now) (L.line_count lines.now) in
+        OnOk result (Passes (K.bytes sink.old) (K.bytes sink.new) pending.old.items pending.new.items text) }
+    ensures err { let text = section_of first.now.bytes (L.line_at lines.now) (L.line_count lines.now) in
+        OnErr result (AppendsSome (K.bytes sink.old) (K.bytes sink.new) (pending.old.items ++ text)) }
+    ensures cause { HasCause (K.fault_count sink.old) (K.fault_count sink.new) result }
+{
+    put(sink, pending, first)?;
+    put_lines(sink, pending, lines)
 }

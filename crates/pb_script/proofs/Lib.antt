@@ -2,7 +2,9 @@ pub mod Again
 pub mod Arguments
 pub mod Asked
 pub mod Asking
+pub mod Counting
 pub mod Cuts
 pub mod Plain
+pub mod Schedules
 pub mod Sources
 pub mod Steps

@@ -38,6 +38,14 @@ pub request_lines_yes : (read : List (List ℕ)) (line : List ℕ) → is_reques
 unfolding request_lines
 request_lines_yes read line e = request_lines_append read (line ∷ []) ∙ ap (λ r. request_lines read ++ r) (cond-true (is_request (fields line)) (fields line ∷ []) [] e)
 
+pub request_lines_skipping : (line : List ℕ) (more : List (List ℕ)) → is_request (fields line) ≡ false → request_lines (line ∷ more) ≡ request_lines more
+unfolding request_lines
+request_lines_skipping line more e = cond-false (is_request (fields line)) (fields line ∷ request_lines more) (request_lines more) e
+
+pub request_lines_taking : (line : List ℕ) (more : List (List ℕ)) → is_request (fields line) ≡ true → request_lines (line ∷ more) ≡ fields line ∷ request_lines more
+unfolding request_lines
+request_lines_taking line more e = cond-true (is_request (fields line)) (fields line ∷ request_lines more) (request_lines more) e
+
 -- numbers go on following after one more request
 pub NumbersFollow_push : (asks : List Ask) (ask : Ask) → NumbersFollow asks → Follows asks ask → NumbersFollow (asks ++ ask ∷ [])
 NumbersFollow_push asks ask before next = λ k d h.

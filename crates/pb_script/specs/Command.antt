@@ -1,5 +1,5 @@
 -- The forms of a command line.
-use Rattle.std.specs.Prelude.{ℕ, ◌*◌, ◌+◌, List, [], ◌∷◌, Option, Some, None, String, codes, map, nat_le, if◌then◌else◌}
+use Rattle.std.specs.Prelude.{ℕ, ◌*◌, ◌+◌, ◌≤◌, List, [], ◌∷◌, Option, Some, None, String, codes, map, nat_le, if◌then◌else◌}
 use Rattle.std.specs.String.{string_bytes}
 use Rattle.std.specs.Str.{bytes_eq}
 use Rattle.pb_object.specs.declared.kind.Kind.{Kind}
@@ -65,3 +65,23 @@ command_of (word ∷ arguments) =
 -- the bytes of each word
 abbrev pub texts : {A : Type 0} → List (String A) → List (List ℕ)
 texts words = map (λ word. string_bytes word) words
+
+-- what a command asks for is within the limits
+pub record IsObjectWithin (clients size : ℕ) : Type 0 where
+  pub some_clients : 1 ≤ clients
+  pub few_clients : clients ≤ MOST_CLIENTS
+  pub some_size : 1 ≤ size
+  pub small_size : size ≤ MOST_SIZE
+
+pub record IsDrillWithin (clients count : ℕ) : Type 0 where
+  pub some_clients : 1 ≤ clients
+  pub few_clients : clients ≤ MOST_CLIENTS
+  pub some : 1 ≤ count
+  pub few : clients * count ≤ MOST_REQUESTS
+
+abbrev pub IsWithinLimits : Command → Type 0
+IsWithinLimits (Fresh kind clients size) = IsObjectWithin clients size
+IsWithinLimits Run = Unit {0}
+IsWithinLimits Report = Unit {0}
+IsWithinLimits (Replay kind clients size) = IsObjectWithin clients size
+IsWithinLimits (Drill seed clients count) = IsDrillWithin clients count

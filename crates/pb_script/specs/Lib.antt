@@ -1,7 +1,9 @@
 pub mod Command
+pub mod Events
 pub mod Print
 pub mod Readers
 pub mod Reading
 pub mod Request
+pub mod Schedule
 pub mod Script
 pub mod Words

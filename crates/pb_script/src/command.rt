@@ -1,6 +1,6 @@
 //! The command line.
 ghost use Rattle.std.specs.Prelude.{◌≡◌, ◌+◌, ◌≤◌, IfSome};
-ghost use Rattle.pb_script.specs.Command.{command_of, fresh_of, replay_of, object_of, object_with, drill_of, drill_with, alone, texts};
+ghost use Rattle.pb_script.specs.Command.{IsWithinLimits, IsObjectWithin, command_of, fresh_of, replay_of, object_of, object_with, drill_of, drill_with, alone, texts};
 ghost use Rattle.pb_script.specs.Request.{number_within};
 
 use crate::request::number_within;
@@ -32,7 +32,8 @@ pub enum Command {
 /// included.
 #[tactic(auto, unfolding(crate::specs::Command::command_of))]
 pub fn parse_words(words: &[String]) -> Option<Command>
-    ensures { result ≡ command_of (texts words.now) }
+    ensures command { result ≡ command_of (texts words.now) }
+    ensures within { IfSome result IsWithinLimits }
 {
     let (word, arguments) = words.split_first()?;
     match word.as_str() {
@@ -46,7 +47,8 @@ pub fn parse_words(words: &[String]) -> Option<Command>
 }
 
 fn alone(command: Command, words: &[String]) -> Option<Command>
-    ensures { result ≡ alone command (texts words.now) }
+    ensures alone { result ≡ alone command (texts words.now) }
+    ensures same { IfSome result (λ one. one ≡ command) }
 {
     match words {
         [] => Some(command),
@@ -56,7 +58,8 @@ fn alone(command: Command, words: &[String]) -> Option<Command>
 
 #[tactic(auto, unfolding(crate::specs::Command::fresh_of))]
 fn parse_fresh(words: &[String]) -> Option<Command>
-    ensures { result ≡ fresh_of (texts words.now) }
+    ensures command { result ≡ fresh_of (texts words.now) }
+    ensures within { IfSome result IsWithinLimits }
 {
     let (kind, clients, size) = parse_object(words)?;
     Some(Command::Fresh {
@@ -68,7 +71,8 @@ fn parse_fresh(words: &[String]) -> Option<Command>
 
 #[tactic(auto, unfolding(crate::specs::Command::replay_of))]
 fn parse_replay(words: &[String]) -> Option<Command>
-    ensures { result ≡ replay_of (texts words.now) }
+    ensures command { result ≡ replay_of (texts words.now) }
+    ensures within { IfSome result IsWithinLimits }
 {
     let (kind, clients, size) = parse_object(words)?;
     Some(Command::Replay {
@@ -80,7 +84,8 @@ fn parse_replay(words: &[String]) -> Option<Command>
 
 #[tactic(auto, unfolding(crate::specs::Command::object_of))]
 fn parse_object(words: &[String]) -> Option<(Kind, u32, u32)>
-    ensures { result ≡ object_of (texts words.now) }
+    ensures object { result ≡ object_of (texts words.now) }
+    ensures within { IfSome result (λ object. IsObjectWithin object.1 object.2) }
 {
     match words {
         [kind, clients, size] => {
@@ -93,7 +98,8 @@ fn parse_object(words: &[String]) -> Option<(Kind, u32, u32)>
 /// A new object's kind, clients and size.
 #[tactic(auto, unfolding(crate::specs::Command::object_with))]
 fn object_with(kind: &[u8], clients: &[u8], size: &[u8]) -> Option<(Kind, u32, u32)>
-    ensures { result ≡ object_with kind.now clients.now size.now }
+    ensures object { result ≡ object_with kind.now clients.now size.now }
+    ensures within { IfSome result (λ object. IsObjectWithin object.1 object.2) }
 {
     let kind = Kind::from_word(kind)?;
     let clients = small_within(clients, MOST_CLIENTS)?;
@@ -103,7 +109,8 @@ fn object_with(kind: &[u8], clients: &[u8], size: &[u8]) -> Option<(Kind, u32, u
 
 #[tactic(auto, unfolding(crate::specs::Command::drill_of))]
 fn parse_drill(words: &[String]) -> Option<Command>
-    ensures { result ≡ drill_of (texts words.now) }
+    ensures command { result ≡ drill_of (texts words.now) }
+    ensures within { IfSome result IsWithinLimits }
 {
     match words {
         [seed, clients, count] => {
@@ -116,7 +123,8 @@ fn parse_drill(words: &[String]) -> Option<Command>
 /// A drill's seed, clients and count, with no more requests than a script may have.
 #[tactic(auto, unfolding(crate::specs::Command::drill_with))]
 fn drill_with(seed: &[u8], clients: &[u8], count: &[u8]) -> Option<Command>
-    ensures { result ≡ drill_with seed.now clients.now count.now }
+    ensures command { result ≡ drill_with seed.now clients.now count.now }
+    ensures within { IfSome result IsWithinLimits }
 {
     let seed = parse_number(seed)?;
     let clients = small_within(clients, MOST_CLIENTS)?;
@@ -132,6 +140,7 @@ fn drill_with(seed: &[u8], clients: &[u8], count: &[u8]) -> Option<Command>
 fn small_within(word: &[u8], most: u32) -> Option<u32>
     requires { most ≤ 32768 }
     ensures value { result ≡ number_within 1 (most + 1) word.now }
+    ensures least { IfSome result (λ number. 1 ≤ number) }
     ensures within { IfSome result (λ number. number ≤ most) }
 {
     let number = number_within(word, 1, u64::from(most) + 1)?;

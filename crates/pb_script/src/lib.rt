@@ -2,13 +2,15 @@
 #![tactic(auto)]
 
 mod command;
+mod event;
 mod print;
 mod request;
+mod schedule;
 mod script;
-#[cfg(test)]
-mod tests;
 mod words;
 
 pub use command::{Command, MOST_CLIENTS, MOST_SIZE, parse_words};
+pub use event::{MOST_TIMES, Repeat};
 pub use print::print_script;
-pub use script::{MOST_REQUESTS, ScriptFault, parse_script};
+pub use schedule::{MOST_EVENTS, parse_schedule};
+pub use script::{MOST_REQUESTS, ScriptFault, is_short, parse_script};

@@ -35,7 +35,7 @@ pub fn read_request(text: &[u8], kind: Kind, clients: u32) -> Option<Ask>
 
 /// The number that a text's first word writes, if it is at least `low` and below `high`, and what stands after it.
 #[tactic(auto, unfolding(crate::specs::Readers::first_number))]
-fn next_number(text: &[u8], low: u64, high: u64) -> Option<(u64, &[u8])>
+pub fn next_number(text: &[u8], low: u64, high: u64) -> Option<(u64, &[u8])>
     ensures value { option_map (λ read. (read.0, words read.1.now)) result ≡ first_number low high (words text.now) }
     ensures within { IfSome result (λ read. (low ≤ read.0) × (read.0 < high)) }
 {
@@ -46,7 +46,7 @@ fn next_number(text: &[u8], low: u64, high: u64) -> Option<(u64, &[u8])>
 
 /// The operation of the kind that a text's words spell, if they spell one.
 #[tactic(auto, unfolding(crate::specs::Request::op_of))]
-fn read_op(text: &[u8], kind: Kind) -> Option<Op>
+pub fn read_op(text: &[u8], kind: Kind) -> Option<Op>
     ensures { result ≡ op_of kind (words text.now) }
 {
     let (word, rest) = cut_word(text)?;

@@ -46,6 +46,26 @@ pub fn parse_script(
     read_script(alloc, bytes, kind, clients)
 }
 
+/// Whether a source has no more request lines than a script may have, refused ones counted. It takes no
+/// memory, and what the lines ask for doesn't matter.
+pub fn is_short(bytes: &[u8]) -> bool
+    ensures { IsTrue result ↔ IsShort (lines bytes.now) }
+{
+    let mut requests = 0;
+    let mut rest = bytes;
+    while !rest.is_empty() {
+        let (line, after) = cut_line(rest);
+        if is_request(without_return(line)) {
+            if requests == MOST_REQUESTS {
+                return false;
+            }
+            requests += 1;
+        }
+        rest = after;
+    }
+    true
+}
+
 fn read_script(
     alloc: Global,
     source: &[u8],
@@ -159,7 +179,7 @@ impl Reading {
 }
 
 /// Whether a line, without its CR, asks for something.
-fn is_request(text: &[u8]) -> bool
+pub fn is_request(text: &[u8]) -> bool
     ensures { result ≡ is_request (words text.now) }
 {
     match cut_word(text) {

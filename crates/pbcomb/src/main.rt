@@ -1,7 +1,10 @@
 //! The program: `pbcomb DEVICE WORDS`, a script on standard input, its outcomes on standard output.
 #![tactic(auto)]
 
-use pb_broker::{OUT_OF_MEMORY, top};
+mod advice;
+
+use crate::advice::advice;
+use pb_broker::{Status, top};
 use pb_image::Image;
 use pb_io::{OpenGate, StdSink, StdSource};
 use std::alloc::AllocError;
@@ -16,10 +19,14 @@ const TRIAL: &str = "-";
 const TRIAL_ROOM: u32 = 2_097_152;
 
 fn main(rt: HostRuntime) -> ExitCode {
-    ExitCode::from(run(&rt).unwrap_or(OUT_OF_MEMORY))
+    let status = run(&rt).unwrap_or(Status::OutOfMemory);
+    if status != Status::Done {
+        let _ = rt.eprintln(advice(status));
+    }
+    ExitCode::from(status.code())
 }
 
-fn run<R: Env + Input + Print + AllocGlobal>(rt: &R) -> Result<u8, AllocError> {
+fn run<R: Env + Input + Print + AllocGlobal>(rt: &R) -> Result<Status, AllocError> {
     let words = words(rt)?;
     let command = match words.split_first() {
         Some((device, command)) if device.as_str() == TRIAL => command,

@@ -17,7 +17,8 @@ pub fn rounds_compose()
     ensures { (base : List Line) (log : List LogOp) (from middle : ℕ)
         → from ≤ middle
         → middle ≤ length log
-        → rounds_in (history_of base log from) ≡ rounds_in (history_of base (take middle log) from) ++ rounds_in (history_of base log middle) }
+        → rounds_in (history_of base log from)
+        ≡ rounds_in (history_of base (take middle log) from) ++ rounds_in (history_of base log middle) }
 {}
 
 /// A covering of the first operations, and one of the rest from the state after their rounds, are a covering of the whole log.
@@ -42,7 +43,8 @@ pub fn one_unsealed_composes()
 
 /// A call after another one: the rounds of the first are sealed, or the second tells none.
 pub fn calls_compose()
-    ensures { (base : List Line) (log ops more : List LogOp) (s : Standing) (first second : List LoggedRound) (between members : List (Option Standing))
+    ensures { (base : List Line) (log ops more : List LogOp) (s : Standing)
+        (first second : List LoggedRound) (between members : List (Option Standing))
         → IsExit base log ops s first between
         → IsExit base (log ++ ops) more (state_after s (rounds_in first)) second members
         → AreSealed first ⊎ (second ≡ [])
@@ -51,7 +53,8 @@ pub fn calls_compose()
 
 /// After sealed rounds the history is the two, one after the other.
 pub fn calls_compose_after_sealed_rounds()
-    ensures { (base : List Line) (log ops more : List LogOp) (s : Standing) (first second : List LoggedRound) (between members : List (Option Standing))
+    ensures { (base : List Line) (log ops more : List LogOp) (s : Standing)
+        (first second : List LoggedRound) (between members : List (Option Standing))
         → IsExit base log ops s first between
         → IsExit base (log ++ ops) more (state_after s (rounds_in first)) second members
         → AreSealed first
@@ -60,7 +63,8 @@ pub fn calls_compose_after_sealed_rounds()
 
 /// Where all rounds that the log told are sealed, they are so after a call whose rounds are sealed.
 pub fn all_stays_sealed()
-    ensures { (base : List Line) (log ops : List LogOp) (s : Standing) (history : List LoggedRound) (members : List (Option Standing)) (from : ℕ)
+    ensures { (base : List Line) (log ops : List LogOp) (s : Standing)
+        (history : List LoggedRound) (members : List (Option Standing)) (from : ℕ)
         → IsExit base log ops s history members
         → AreSealed history
         → from ≤ length log

@@ -99,7 +99,8 @@ pub fn landed_stays_landed()
 pub fn settling_after_doubt()
     ensures { (base : List Line) (log ops : List LogOp) (s : Standing) (round : Round)
         → IsExitInDoubt base log ops s round
-        → IsExit base log (ops ++ settle_to (header_for s) (after_round s round)) s (sealed_round round ∷ []) (Some (after_round s round) ∷ []) }
+        → IsExit base log (ops ++ settle_to (header_for s) (after_round s round)) s
+        (sealed_round round ∷ []) (Some (after_round s round) ∷ []) }
 {}
 
 /// Settling that fails once more leaves the round in doubt once more.

@@ -1,7 +1,65 @@
-use Rattle.pb_broker.proofs.TopLemmas.{answered_by}
+use Rattle.std.proofs.Common.{rules, ◌≡◌, Some, None, refl}
+use Rattle.std.proofs.KnownBytes.{Keeps-refl}
+use Rattle.pb_script.specs.declared.command.Command.{Command}
+use Rattle.pb_script.specs.declared.command.Command.TheVariants.{Fresh, Run, Replay, Drill}
+use Rattle.pb_script.specs.Command.{command_of, texts}
+use Rattle.pb_broker.specs.Call.{output}
+use Rattle.pb_broker.specs.Reading.{reading}
+use Rattle.pb_broker.proofs.Answered.{call_of, served_or_stopped, no_command}
 use Rattle.pb_broker.proofs.program.top.Goals as goal
 
-pub returns : goal.returns
-returns g c =
-    let here = g.met.P.Pmem g.world.𝓛 g.world.𝓜 g.world.𝓡 ((λ s x. x), (λ x. x), (λ x. x), λ x. x) in
-    answered_by _ _ c.print-status.result c.run-served.result.served c.run-served.ensures c.print-status.ensures (here.is_whole c.args.device) (here.is_replay c.args.device)
+pub returns-in-Some-Fresh : goal.returns-in-Some-Fresh
+returns-in-Some-Fresh g c =
+    let words = texts c.args.words.now in
+    let command : Command = Fresh c.in-Some-Fresh.kind c.in-Some-Fresh.clients c.in-Some-Fresh.size in
+    let is : command_of words ≡ Some command = search rules in
+    served_or_stopped words (Some command)
+    (reading (g.S.Source.rest c.args.source.now) (g.S.Source.rest c.fresh.new.source) (g.S.Source.fault_count c.args.source.now) (g.S.Source.fault_count c.fresh.new.source))
+    (g.P.Pmem.seen c.args.device) (g.P.Pmem.seen c.fresh.result.device) (g.P.Pmem.seen c.finish.result.device)
+    (output (g.K.Sink.bytes c.args.sink.now) (g.K.Sink.bytes c.finish.new.sink) (g.K.Sink.fault_count c.args.sink.now) (g.K.Sink.fault_count c.finish.new.sink))
+    c.finish.result.status c.fresh.result.served is c.finish.ensures.device c.fresh.ensures c.finish.ensures.said
+
+pub returns-in-Some-Run : goal.returns-in-Some-Run
+returns-in-Some-Run g c =
+    let words = texts c.args.words.now in
+    let is : command_of words ≡ Some Run = search rules in
+    served_or_stopped words (Some Run)
+    (reading (g.S.Source.rest c.args.source.now) (g.S.Source.rest c.run.new.source) (g.S.Source.fault_count c.args.source.now) (g.S.Source.fault_count c.run.new.source))
+    (g.P.Pmem.seen c.args.device) (g.P.Pmem.seen c.run.result.device) (g.P.Pmem.seen c.finish-in-Some-Run.result.device)
+    (output (g.K.Sink.bytes c.args.sink.now) (g.K.Sink.bytes c.finish-in-Some-Run.new.sink) (g.K.Sink.fault_count c.args.sink.now) (g.K.Sink.fault_count c.finish-in-Some-Run.new.sink))
+    c.finish-in-Some-Run.result.status c.run.result.served is c.finish-in-Some-Run.ensures.device c.run.ensures c.finish-in-Some-Run.ensures.said
+
+pub returns-in-Some-Replay : goal.returns-in-Some-Replay
+returns-in-Some-Replay g c =
+    let words = texts c.args.words.now in
+    let command : Command = Replay c.in-Some-Replay.field-0-0 c.in-Some-Replay.field-0-1 c.in-Some-Replay.field-0-2 in
+    let is : command_of words ≡ Some command = search rules in
+    no_command words (Some command)
+    (call_of (reading (g.S.Source.rest c.args.source.now) (g.S.Source.rest c.args.source.now) (g.S.Source.fault_count c.args.source.now) (g.S.Source.fault_count c.args.source.now)) (g.P.Pmem.seen c.args.device) (g.P.Pmem.seen c.no_command.result.device))
+    (output (g.K.Sink.bytes c.args.sink.now) (g.K.Sink.bytes c.no_command.new.sink) (g.K.Sink.fault_count c.args.sink.now) (g.K.Sink.fault_count c.no_command.new.sink))
+    c.no_command.result.status is (λ usage. usage)
+    (record { same = Keeps-refl (g.S.Source.rest c.args.source.now); reads = refl }, c.no_command.ensures.device)
+    c.no_command.ensures.said
+
+pub returns-in-Some-Drill : goal.returns-in-Some-Drill
+returns-in-Some-Drill g c =
+    let words = texts c.args.words.now in
+    let command : Command = Drill c.in-Some-Drill.field-0-0 c.in-Some-Drill.field-0-1 c.in-Some-Drill.field-0-2 in
+    let is : command_of words ≡ Some command = search rules in
+    no_command words (Some command)
+    (call_of (reading (g.S.Source.rest c.args.source.now) (g.S.Source.rest c.args.source.now) (g.S.Source.fault_count c.args.source.now) (g.S.Source.fault_count c.args.source.now)) (g.P.Pmem.seen c.args.device) (g.P.Pmem.seen c.no_command-in-Some-Drill.result.device))
+    (output (g.K.Sink.bytes c.args.sink.now) (g.K.Sink.bytes c.no_command-in-Some-Drill.new.sink) (g.K.Sink.fault_count c.args.sink.now) (g.K.Sink.fault_count c.no_command-in-Some-Drill.new.sink))
+    c.no_command-in-Some-Drill.result.status is (λ usage. usage)
+    (record { same = Keeps-refl (g.S.Source.rest c.args.source.now); reads = refl }, c.no_command-in-Some-Drill.ensures.device)
+    c.no_command-in-Some-Drill.ensures.said
+
+pub returns-in-None : goal.returns-in-None
+returns-in-None g c =
+    let words = texts c.args.words.now in
+    let is : command_of words ≡ None = search rules in
+    no_command words None
+    (call_of (reading (g.S.Source.rest c.args.source.now) (g.S.Source.rest c.args.source.now) (g.S.Source.fault_count c.args.source.now) (g.S.Source.fault_count c.args.source.now)) (g.P.Pmem.seen c.args.device) (g.P.Pmem.seen c.no_command-in-None.result.device))
+    (output (g.K.Sink.bytes c.args.sink.now) (g.K.Sink.bytes c.no_command-in-None.new.sink) (g.K.Sink.fault_count c.args.sink.now) (g.K.Sink.fault_count c.no_command-in-None.new.sink))
+    c.no_command-in-None.result.status is (λ usage. usage)
+    (record { same = Keeps-refl (g.S.Source.rest c.args.source.now); reads = refl }, c.no_command-in-None.ensures.device)
+    c.no_command-in-None.ensures.said

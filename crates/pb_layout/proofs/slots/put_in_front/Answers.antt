@@ -1,6 +1,5 @@
 -- One slot after the other.
-use Rattle.std.proofs.Common.{◌≡◌, ◌+◌, ◌-◌, ◌*◌, get_or, sym, ap, subst, ◌∙◌, arith, ℕ}
-use Rattle.pb_pmem.specs.declared.line.Line.{Line}
+use Rattle.std.proofs.Common.{◌≡◌, ◌+◌, ◌-◌, ◌*◌, get_or, ap, ◌∙◌, arith, ℕ}
 use Rattle.pb_object.specs.declared.request.TheConstants.{KEPT_REQUESTS}
 use Rattle.pb_layout.proofs.ShiftedSlots.{first_shifted, next_shifted, all_shifted}
 use Rattle.pb_layout.proofs.slots.put_in_front.Goals as goal

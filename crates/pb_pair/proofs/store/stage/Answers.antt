@@ -1,7 +1,7 @@
 use Rattle.std.proofs.Common.{[], ◌∷◌, length}
 use Rattle.pb_pmem.specs.declared.log.LogOp.TheVariants.{Back, Fence}
 use Rattle.pb_pmem.proofs.OperationSteps.{ok_then, err_then}
-use Rattle.pb_pair.specs.Store.{writes_over}
+use Rattle.pb_layout.specs.RegionOps.{writes_over}
 use Rattle.pb_pair.specs.View.{if_known}
 use Rattle.pb_pair.proofs.store.stage.Goals as goal
 

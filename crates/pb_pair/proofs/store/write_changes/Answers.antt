@@ -1,7 +1,8 @@
 use Rattle.std.proofs.Common.{arith}
 use Rattle.pb_pmem.proofs.OperationSteps.{does_none, on_err}
-use Rattle.pb_pair.specs.Store.{is_same}
-use Rattle.pb_pair.proofs.Changes.{IsPlace, changes_from-none, does_same, does_change, stops_change, differs, agrees}
+use Rattle.pb_layout.specs.RegionOps.{is_same}
+use Rattle.pb_layout.proofs.SparseWrites.{changes_from-none}
+use Rattle.pb_pair.proofs.Changes.{IsPlace, does_same, does_change, stops_change, differs, agrees}
 use Rattle.pb_pair.proofs.store.write_changes.Goals as goal
 use Rattle.pb_pair.proofs.store.write_changes.Goals.{then-differs+in_ok-make, else-differs}
 

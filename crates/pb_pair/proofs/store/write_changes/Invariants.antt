@@ -1,6 +1,6 @@
 use Rattle.std.proofs.Common.{take}
 use Rattle.pb_pmem.specs.Operations.{Does}
-use Rattle.pb_pair.specs.Store.{changes_from}
+use Rattle.pb_layout.specs.RegionOps.{changes_from}
 use Rattle.pb_pair.proofs.store.write_changes.Given as goal
 
 abbrev pub invariant-loop-place : goal.invariant-loop-place

@@ -9,13 +9,15 @@ pub invariant_of-result : goal.invariant_of-result
 invariant_of-result g c =
     let old = g.P.Pmem.seen c.args.device in
     let whole : IsWhole old = g.met.P.Pmem.is_whole c.args.device in
-    ((formatted old (g.P.Pmem.seen c.make_region.new.device) c.args.head.now c.args.first.now c.args.second.now c.in-Ok.sides c.requires whole c.in-Ok.ensures.ok).sound, c.in-Ok.ensures.ok.room)
+    let replay : IsReplay old = g.met.P.Pmem.is_replay c.args.device in
+    ((formatted old (g.P.Pmem.seen c.make_region.new.device) c.args.head.now c.args.first.now c.args.second.now c.in-Ok.sides c.requires whole replay c.in-Ok.ensures.ok).sound, c.in-Ok.ensures.ok.room)
 
 pub returns-in-Ok-clause-ok : goal.returns-in-Ok-clause-ok
 returns-in-Ok-clause-ok g c =
     let old = g.P.Pmem.seen c.args.device in
     let whole : IsWhole old = g.met.P.Pmem.is_whole c.args.device in
-    formatted old (g.P.Pmem.seen c.make_region.new.device) c.args.head.now c.args.first.now c.args.second.now c.in-Ok.sides c.requires whole c.in-Ok.ensures.ok
+    let replay : IsReplay old = g.met.P.Pmem.is_replay c.args.device in
+    formatted old (g.P.Pmem.seen c.make_region.new.device) c.args.head.now c.args.first.now c.args.second.now c.in-Ok.sides c.requires whole replay c.in-Ok.ensures.ok
 
 pub returns-in-Ok-clause-safe : goal.returns-in-Ok-clause-safe
 returns-in-Ok-clause-safe g c =

@@ -3,8 +3,9 @@ use Rattle.pb_pmem.specs.Operations.{IsFailedPrefix, Does, Stops}
 use Rattle.pb_pair.specs.declared.known.Known.TheVariants.{Sure}
 use Rattle.pb_pair.specs.Settle.{settled_ops, was_called, IsSettled}
 use Rattle.pb_pair.specs.View.{PairView, HasFailed, pair_view}
-use Rattle.pb_pair.proofs.Pairs.{fails_keeping, has_failed, room_left, stops_by}
-use Rattle.pb_pair.proofs.Settled.{next_of_side, answered, SettlesTo, settles_to, does_settle, stops_settle, is_settled}
+use Rattle.pb_pair.proofs.HeldRecords.{cut_spares}
+use Rattle.pb_pair.proofs.Pairs.{fails_keeping, has_failed_beside, room_left, stops_by}
+use Rattle.pb_pair.proofs.Settled.{next_of_side, answered, SettlesTo, settles_to, does_settle, stops_settle, settled_spares, is_settled}
 use Rattle.pb_pair.proofs.Safe.{settle_covers, failed_settle_covers}
 use Rattle.pb_pair.proofs.pair.Pair.settle.Goals as goal
 
@@ -76,7 +77,7 @@ invariant_of-self-in-Err g c =
     let new = g.P.Pmem.seen c.settle_rounds.new.device in
     let are = fails_keeping (g.P.Pmem.seen i.device) i.head i.sides c.fail.new.sides i.known c.fail.new.known i.doubt c.self.invariant.0 c.fail.ensures.sides c.fail.ensures.known in
     let stops : Stops (IsFailedPrefix (settled_ops old)) old.device new = stops_settle (g.P.Pmem.seen i.device) new i.head i.sides i.known i.doubt c.is_called_on-on_first.result c.is_called_on-on_second.result c.is_called_on-on_first.ensures c.is_called_on-on_second.ensures c.round_to_settle-first.result c.round_to_settle-second.result c.round_to_settle-first.ensures c.round_to_settle-second.ensures c.in-Err.ensures.err in
-    ((has_failed (IsFailedPrefix (settled_ops old)) old new c.fail.new.sides c.fail.new.known i.doubt old.doubt c.fail.result c.self.invariant.0 are (stops_by (IsFailedPrefix (settled_ops old)) old.device new c.fail.result c.faults-from.result c.faults-to.result c.fail.ensures.fault c.faults-from.ensures c.faults-to.ensures stops)).sound, room_left i.sides c.fail.new.sides c.self.invariant.1 c.fail.ensures.sides)
+    ((has_failed_beside (IsFailedPrefix (settled_ops old)) old new c.fail.new.sides c.fail.new.known i.doubt c.fail.result c.self.invariant.0 are (λ ops. cut_spares old.head (settled_ops old) ops (settled_spares old)) (stops_by (IsFailedPrefix (settled_ops old)) old.device new c.fail.result c.faults-from.result c.faults-to.result c.fail.ensures.fault c.faults-from.ensures c.faults-to.ensures stops)).sound, room_left i.sides c.fail.new.sides c.self.invariant.1 c.fail.ensures.sides)
 
 pub returns-in-Err-clause-err : goal.returns-in-Err-clause-err
 returns-in-Err-clause-err g c =
@@ -86,7 +87,7 @@ returns-in-Err-clause-err g c =
     let are = fails_keeping (g.P.Pmem.seen i.device) i.head i.sides c.fail.new.sides i.known c.fail.new.known i.doubt c.self.invariant.0 c.fail.ensures.sides c.fail.ensures.known in
     let stops : Stops (IsFailedPrefix (settled_ops old)) old.device new = stops_settle (g.P.Pmem.seen i.device) new i.head i.sides i.known i.doubt c.is_called_on-on_first.result c.is_called_on-on_second.result c.is_called_on-on_first.ensures c.is_called_on-on_second.ensures c.round_to_settle-first.result c.round_to_settle-second.result c.round_to_settle-first.ensures c.round_to_settle-second.ensures c.in-Err.ensures.err in
     subst (λ (was : PairView). HasFailed (IsFailedPrefix (settled_ops was)) was.doubt was c.fail.result (pair_view new i.head c.fail.new.sides c.fail.new.known i.doubt)) c.self.view_is
-    (has_failed (IsFailedPrefix (settled_ops old)) old new c.fail.new.sides c.fail.new.known i.doubt old.doubt c.fail.result c.self.invariant.0 are (stops_by (IsFailedPrefix (settled_ops old)) old.device new c.fail.result c.faults-from.result c.faults-to.result c.fail.ensures.fault c.faults-from.ensures c.faults-to.ensures stops))
+    (has_failed_beside (IsFailedPrefix (settled_ops old)) old new c.fail.new.sides c.fail.new.known i.doubt c.fail.result c.self.invariant.0 are (λ ops. cut_spares old.head (settled_ops old) ops (settled_spares old)) (stops_by (IsFailedPrefix (settled_ops old)) old.device new c.fail.result c.faults-from.result c.faults-to.result c.fail.ensures.fault c.faults-from.ensures c.faults-to.ensures stops))
 
 pub returns-in-Ok-clause-safe : goal.returns-in-Ok-clause-safe
 returns-in-Ok-clause-safe g c = settle_covers c.args.self.now (g.P.Pmem.seen c.settle_rounds.new.device) (returns-in-Ok-clause-ok g c).device

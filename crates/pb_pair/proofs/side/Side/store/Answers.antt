@@ -4,8 +4,8 @@ use Rattle.pb_pmem.specs.Operations.{IsFailedPrefix, Does, Stops}
 use Rattle.pb_pmem.proofs.OperationSteps.{does_then, stops_after}
 use Rattle.pb_layout.specs.Header.{word}
 use Rattle.pb_layout.specs.Region.{record_place}
-use Rattle.pb_layout.specs.RegionOps.{commit_ops, spare_place}
-use Rattle.pb_pair.specs.Store.{stage_over, staged_ops, IsFailedStore}
+use Rattle.pb_layout.specs.RegionOps.{stage_over, commit_ops, spare_place}
+use Rattle.pb_pair.specs.Store.{staged_ops, IsFailedStore}
 use Rattle.pb_pair.specs.View.{SideView, if_known, side_view}
 use Rattle.pb_pair.proofs.Changes.{line_found}
 use Rattle.pb_pair.proofs.Tests.{if_ok, if_err}

@@ -1,0 +1,146 @@
+-- What `fresh` and `run` come to, from their parts.
+use Rattle.std.proofs.Common.{◌≡◌, ℕ, ◌≤◌, List, Option, Some, IfSome, IfOk, Result, Ok, Err, MatchResult, length, sym, subst, ap, ◌∙◌, arith, inl, inr}
+use Rattle.std.proofs.KnownBytes.{Consumes-whole}
+use Rattle.pb_pmem.specs.declared.line.Line.{Line}
+use Rattle.pb_pmem.specs.Count.{Rose}
+use Rattle.pb_pmem.specs.Device.{Device, Tale, IsReplay}
+use Rattle.pb_pmem.specs.Operations.{Stops, IsFailedPrefix}
+use Rattle.pb_object.specs.declared.kind.Kind.{Kind}
+use Rattle.pb_object.specs.declared.request.Ask.{Ask}
+use Rattle.pb_object.specs.Standing.{Standing}
+use Rattle.pb_layout.specs.declared.header.Header.{Header}
+use Rattle.pb_layout.specs.Recovered.{Represents}
+use Rattle.pb_layout.specs.RegionOps.{settle_to}
+use Rattle.pb_layout.specs.Represents.{header_for}
+use Rattle.pb_layout.specs.ToldExits.{contents_of}
+use Rattle.pb_pair.proofs.Told.{told_now}
+use Rattle.pb_engine.specs.Opening.{IsAdopted}
+use Rattle.pb_engine.specs.View.{EngineView, FailedRound, DeviceRepresents, settled_standing, was_called}
+use Rattle.pb_report.specs.declared.outcome.Outcome.{Outcome}
+use Rattle.pb_run.specs.Answer.{StaysUnsure}
+use Rattle.pb_broker.specs.declared.requests.Requests.{Requests}
+use Rattle.pb_broker.specs.declared.source.TheConstants.{SOURCE_LIMIT}
+use Rattle.pb_broker.specs.declared.stop.Stop.{Stop}
+use Rattle.pb_broker.specs.declared.stop.Stop.TheVariants.{Memory, Usage, ReadFault, Long, Many, Line as BadLine, DeviceFault as FailedDevice, Taken, NoRegion, Damaged}
+use Rattle.pb_broker.specs.Call.{Call}
+use Rattle.pb_broker.specs.Comes.{HasFew, HasBadLine, IsScriptOf, StopsFresh, ServesFresh, FailsToSettle, StopsRun, ServesRun}
+use Rattle.pb_broker.specs.Reading.{Reading, IsStopped, IsWhole}
+use Rattle.pb_broker.specs.Running.{IsCutOff}
+use Rattle.pb_broker.specs.Serving.{ReadsFew, ServesNew, IsNotMade, StopsFound, ServesOn, StopsOn, IsNotOpened, Opens}
+use Rattle.pb_broker.proofs.Ran.{RanOnNew, run_on_new, run_on_found}
+
+-- The source
+
+pub whole_weaker : {A B : List ℕ → Type 0} {read : Reading} → ((bytes : List ℕ) → A bytes → B bytes) → IsWhole A read → IsWhole B read
+whole_weaker {A} {B} {read} so whole = record { bytes = whole.bytes; taken = whole.taken; end = whole.end; few = whole.few; holds = so whole.bytes whole.holds; sound = whole.sound }
+
+-- it was read so far
+whole_stopped : {A : List ℕ → Type 0} {read : Reading} → IsWhole A read → IsStopped read
+whole_stopped whole = record { some = record { front = whole.bytes; few = omega (arith, whole.few); taken = whole.taken }; sound = whole.sound }
+
+-- what is said of it is said of its bytes, where they are told
+pub content : {A : List ℕ → Type 0} {read : Reading} → IsWhole A read → IfSome read.source (λ bytes. (length bytes ≤ SOURCE_LIMIT) × A bytes)
+content {A} {read} whole = Consumes-whole read.source read.left whole.bytes (λ all. (length all ≤ SOURCE_LIMIT) × A all) whole.taken whole.end (whole.few, whole.holds)
+
+pub script_is_few : {kind : Kind} {clients : ℕ} {asks : List Ask} {read : Reading} → IsWhole (IsScriptOf kind clients asks) read → IsWhole HasFew read
+script_is_few whole = whole_weaker (λ bytes is. is.0) whole
+
+read_whole : {read : Reading} {bytes : List ℕ} (Holds : List ℕ → Type 0) → ReadsFew read bytes → Holds bytes → IsWhole Holds read
+read_whole {read} {bytes} Holds few is =
+    record { bytes = bytes; taken = few.whole.consumes; end = few.whole.end; few = few.whole.few; holds = is; sound = few.whole.sound }
+
+-- `fresh`
+
+fresh_stops : (head : Header) (call : Call) (stop : Stop) → (asks : List Ask) → IsWhole (IsScriptOf head.kind head.clients asks) call.read → IsNotMade head call.before call.after stop → StopsFresh head call stop
+fresh_stops head call Memory asks script is = (whole_stopped script, is)
+fresh_stops head call Usage asks script is = absurd is
+fresh_stops head call ReadFault asks script is = absurd is
+fresh_stops head call Long asks script is = absurd is
+fresh_stops head call Many asks script is = absurd is
+fresh_stops head call (BadLine number) asks script is = absurd is
+fresh_stops head call FailedDevice asks script is = ((asks, script), is)
+fresh_stops head call Taken asks script is = ((asks, script), is.0, is.1)
+fresh_stops head call NoRegion asks script is = absurd is
+fresh_stops head call (Damaged line) asks script is = absurd is
+
+fresh_serves : (head : Header) (call : Call) (asks : List Ask) (list : List Outcome) → IsWhole (IsScriptOf head.kind head.clients asks) call.read → ServesNew head call.before call.after asks list → ServesFresh head call asks list
+fresh_serves head call asks list script served =
+    let ran : RanOnNew head call.before call.after asks list = run_on_new served in
+    record { script = script; none = served.fresh.no_region; run = ran.run; holds = ran.holds }
+
+pub fresh_by : (head : Header) (call : Call) (asks : List Ask) (served : Result Requests Stop) → IsWhole (IsScriptOf head.kind head.clients asks) call.read → IfOk served (λ s. s.asks.items ≡ asks) → MatchResult served (λ s. ServesNew head call.before call.after s.asks.items s.outcomes.items) (IsNotMade head call.before call.after) → MatchResult served (λ s. ServesFresh head call s.asks.items s.outcomes.items) (StopsFresh head call)
+fresh_by head call asks (Ok s) script same is =
+    fresh_serves head call s.asks.items s.outcomes.items (subst (λ (l : List Ask). IsWhole (IsScriptOf head.kind head.clients l) call.read) (sym same) script) is
+fresh_by head call asks (Err stop) script same is = fresh_stops head call stop asks script is
+
+-- `run`
+
+run_not_opened : (call : Call) (stop : Stop) → IsWhole HasFew call.read → IsNotOpened call.before call.after stop → StopsRun call stop
+run_not_opened call Memory few is = (whole_stopped few, is)
+run_not_opened call Usage few is = absurd is
+run_not_opened call ReadFault few is = absurd is
+run_not_opened call Long few is = absurd is
+run_not_opened call Many few is = absurd is
+run_not_opened call (BadLine number) few is = absurd is
+run_not_opened call FailedDevice few is = record { few = few; rose = is.0; left = inl is.1 }
+run_not_opened call Taken few is = absurd is
+run_not_opened call NoRegion few is = (few, is.0, is.1)
+run_not_opened call (Damaged line) few is = (few, is.0, is.1)
+
+-- nothing was done
+unchanged : {before after : Device} {found now : EngineView} → IsAdopted before found → after ≡ now.device → now ≡ found → after ≡ before
+unchanged adopted device same = device ∙ (ap (λ (e : EngineView). e.device) same ∙ adopted.same)
+
+represented : (s : Standing) (device : Device) (tale : Tale) → IsReplay device → device.told ≡ Some tale → DeviceRepresents s device → Represents (contents_of tale) s
+represented s device tale replay told stands = subst (λ (o : Option (List Line)). IfSome o (λ image. Represents image s)) (told_now device tale replay told) stands
+
+cut_off : (call : Call) {found now : EngineView} {asks : List Ask} → IsReplay call.before → IsAdopted call.before found → call.after ≡ now.device → IsWhole (IsScriptOf found.standing.kind found.standing.clients asks) call.read → StaysUnsure found now → FailsToSettle call
+cut_off call {found} {now} {asks} replay adopted device script unsure = record {
+  standing = found.standing;
+  script = (asks, script);
+  cut = subst (λ (d : Device). IsCutOff found.standing call.before d) (sym device) (record {
+    stands = adopted.stands;
+    stopped = subst (λ (d : Device). Stops (IsFailedPrefix (settle_to (header_for found.standing) found.standing)) d now.device) adopted.same
+        (subst (λ (doubt : Option FailedRound). Stops (IsFailedPrefix (settle_to (header_for (settled_standing found.standing doubt)) (settled_standing found.standing doubt))) found.device now.device) adopted.doubt unsure.failed.device.stops);
+    left = λ tale members told ready.
+        unsure.covers.found (ap was_called adopted.doubt) tale members (ap (λ (d : Device). d.told) adopted.same ∙ told) ready (represented found.standing call.before tale replay told adopted.stands);
+  });
+}
+
+run_stops : (call : Call) (bytes : List ℕ) (stop : Stop) (opens : Opens call.before call.after (λ found now. StopsFound found.standing.kind found bytes now stop)) → ReadsFew call.read bytes → IsReplay call.before → StopsRun call stop
+run_stops call bytes Memory opens few replay = (whole_stopped (read_whole HasFew few few.short), unchanged opens.adopted opens.device opens.comes)
+run_stops call bytes Usage opens few replay = absurd opens.comes
+run_stops call bytes ReadFault opens few replay = absurd opens.comes
+run_stops call bytes Long opens few replay = absurd opens.comes
+run_stops call bytes Many opens few replay = absurd (omega (arith, opens.comes, few.short))
+run_stops call bytes (BadLine number) opens few replay = (
+  opens.found.standing,
+  opens.adopted.stands,
+  read_whole (HasBadLine opens.found.standing.kind opens.found.standing.clients number) few opens.comes.0,
+  unchanged opens.adopted opens.device opens.comes.1,
+)
+run_stops call bytes FailedDevice opens few replay =
+    let unsure : StaysUnsure opens.found opens.now = opens.comes.1 in
+    let counts = opens.now.device.faults in
+    record {
+      few = read_whole HasFew few few.short;
+      rose = subst (λ (d : Device). Rose call.before.faults d.faults) (sym opens.device)
+          (subst (λ (d : Device). Rose d.faults counts) opens.adopted.same unsure.failed.device.stops.rose);
+      left = inr (cut_off call replay opens.adopted opens.device (read_whole (IsScriptOf opens.found.standing.kind opens.found.standing.clients opens.comes.0.0) few opens.comes.0.1) unsure);
+    }
+run_stops call bytes Taken opens few replay = absurd opens.comes
+run_stops call bytes NoRegion opens few replay = absurd opens.comes
+run_stops call bytes (Damaged line) opens few replay = absurd opens.comes
+
+run_serves : (call : Call) (bytes : List ℕ) (asks : List Ask) (list : List Outcome) → ServesOn bytes call.before call.after asks list → ReadsFew call.read bytes → IsReplay call.before → ServesRun call asks list
+run_serves call bytes asks list opens few replay = record {
+  standing = opens.found.standing;
+  stands = opens.adopted.stands;
+  script = read_whole (IsScriptOf opens.found.standing.kind opens.found.standing.clients asks) few opens.comes.script;
+  run = run_on_found replay opens.adopted opens.comes.settled opens.comes.run opens.device;
+}
+
+pub run_by : (call : Call) (bytes : List ℕ) (served : Result Requests Stop) → ReadsFew call.read bytes → IsReplay call.before → MatchResult served (λ s. ServesOn bytes call.before call.after s.asks.items s.outcomes.items) (StopsOn bytes call.before call.after) → MatchResult served (λ s. ServesRun call s.asks.items s.outcomes.items) (StopsRun call)
+run_by call bytes (Ok s) few replay is = run_serves call bytes s.asks.items s.outcomes.items is few replay
+run_by call bytes (Err stop) few replay (inl is) = run_not_opened call stop (read_whole HasFew few few.short) is
+run_by call bytes (Err stop) few replay (inr opens) = run_stops call bytes stop opens few replay

@@ -1,0 +1,216 @@
+-- What the log tells of requests that were run over an engine.
+use Rattle.std.proofs.Common.{◌≡◌, ◌⊎◌, ℕ, ◌+◌, ◌<◌, Bool, true, false, List, [], ◌∷◌, ◌++◌, length, get_or, Option, Some, None, refl, sym, ap, subst, ◌∙◌, arith, inl, inr, zero, suc, IfSome}
+use Rattle.std.specs.List.{Contains, zip}
+use Rattle.std.proofs.lemmas.List.{append_cancel_left, get_or_append_left, length-append, length-map, append-nil, take_all}
+use Rattle.std.proofs.lemmas.Option.{same_Some}
+use Rattle.pb_pmem.specs.declared.log.LogOp.{LogOp}
+use Rattle.pb_pmem.specs.Count.{Rose}
+use Rattle.pb_pmem.specs.Device.{Tale}
+use Rattle.pb_pmem.specs.Operations.{with_ops}
+use Rattle.pb_object.specs.declared.request.Ask.{Ask}
+use Rattle.pb_object.specs.History.{Round, History, IsLegalRound, state_after}
+use Rattle.pb_object.specs.Standing.{Standing}
+use Rattle.pb_layout.specs.Doubt.{either_state, IsRoundInDoubt, HasRoundLanded}
+use Rattle.pb_layout.specs.Exits.{HasOneUnsealedAtMost}
+use Rattle.pb_layout.specs.LogHistory.{LoggedRound, rounds_in, round_of, AreSealed, history_of}
+use Rattle.pb_layout.specs.ToldExits.{IsCoveredExit, IsSealedAfter}
+use Rattle.pb_engine.specs.Good.{fence_count, sync_count, settlings, BeginsAt, IsCovered, IsDecidedAfter, IsInDoubtAfter, IsStillFound, HasCome}
+use Rattle.pb_engine.specs.View.{EngineView, FailedRound, was_called}
+use Rattle.pb_layout_laws.proofs.ToldCalls.{from_told}
+use Rattle.pb_core.proofs.Histories.{legal-push}
+use Rattle.pb_report.specs.declared.outcome.Outcome.{Outcome}
+use Rattle.pb_report.specs.Outcomes.{Outcomes, AreNewSealed, entry_of}
+use Rattle.pb_run.specs.Run.{HasRun, AreNewRecorded, rounds_in_doubt}
+use Rattle.pb_broker.specs.Running.{Explains, IsCalm, IsSealedAt, Cost, IsSettled, IsBegun, IsLogged}
+
+-- Rounds by their places
+
+abbrev no_round : Round
+no_round = record { side = 0; entries = [] }
+
+abbrev unsealed : LoggedRound
+unsealed = record { round = no_round; backed = false; sealed = false }
+
+sealed_by_place : (history : List LoggedRound) (place : ℕ) → AreSealed history → place < length history → IsSealedAt history place
+sealed_by_place [] place sealed inside = absurd (omega (arith, inside))
+sealed_by_place (logged ∷ history) zero sealed inside = sealed.0
+sealed_by_place (logged ∷ history) (suc place) sealed inside = sealed_by_place history place sealed.1 (omega (arith, inside))
+
+sealed_in_front : (front rest : List LoggedRound) (place : ℕ) → AreSealed front → place < length front → IsSealedAt (front ++ rest) place
+sealed_in_front front rest place sealed inside =
+    ap (λ (logged : LoggedRound). logged.sealed) (get_or_append_left front rest unsealed place inside) ∙ sealed_by_place front place sealed inside
+
+-- the new requests' rounds are among the first ones, which are sealed
+first_sealed : (rounds : History) (history : List LoggedRound) (more : History) (asks : List Ask) (list : List Outcome) → rounds_in history ≡ rounds ++ more → ((place : ℕ) → place < length rounds → IsSealedAt history place) → AreNewRecorded rounds (zip asks list) → AreNewSealed (IsSealedAt history) (rounds_in history) asks list
+first_sealed rounds history more asks list are sealed recorded ask reply line =
+    let is = recorded ask reply line in
+    let place = is.told.0 in
+    let inside = is.told.1 in
+    let here : get_or (rounds_in history) place no_round ≡ is.round =
+    ap (λ (h : History). get_or h place no_round) are ∙ (get_or_append_left rounds more no_round place inside ∙ (any_default rounds place no_round is.round inside ∙ is.told.2)) in (
+      place,
+      subst (λ (h : History). place < length h) (sym are) (omega (arith, inside, length-append rounds more)),
+      sealed place inside,
+      subst (λ (r : Round). Contains r.entries (entry_of ask reply)) (sym here) is.member,
+    )
+  where
+    any_default : (h : History) (place : ℕ) (a b : Round) → place < length h → get_or h place a ≡ get_or h place b
+    any_default [] place a b inside = absurd (omega (arith, inside))
+    any_default (one ∷ h) zero a b inside = refl
+    any_default (one ∷ h) (suc place) a b inside = any_default h place a b (omega (arith, inside))
+
+as_many : (history : List LoggedRound) → length history ≡ length (rounds_in history)
+as_many history = sym (length-map history round_of)
+
+-- all but the last round of a log are sealed
+all_but_last : (history : List LoggedRound) (count place : ℕ) → HasOneUnsealedAtMost history → length history ≡ count + 1 → place < count → IsSealedAt history place
+all_but_last history count place one many inside =
+    let longer : place < length one.prefix = omega (arith, many, inside, one.few, ap length one.whole, length-append one.prefix one.last) in
+    subst (λ (h : List LoggedRound). IsSealedAt h place) (sym one.whole) (sealed_in_front one.prefix one.last place one.sealed longer)
+
+-- Operations
+
+pub same_ops : (tale : Tale) (told : Option Tale) (a b : List LogOp) → told ≡ Some (with_ops a tale) → told ≡ Some (with_ops b tale) → a ≡ b
+same_ops tale told a b first second =
+    append_cancel_left tale.log a b (ap (λ (t : Tale). t.log) (same_Some (with_ops a tale) (with_ops b tale) (sym first ∙ second)))
+
+-- An engine from a first view on
+
+-- requests were run from a start on that has come from the first view with no round; no call of the device failed between
+pub record IsRunSince (first start : EngineView) (asks : List Ask) (now : EngineView) (list : List Outcome) : Type 0 where
+  pub run : HasRun start asks now list
+  pub come : HasCome first now run.rounds
+  pub same : start.standing ≡ first.standing
+  pub sure : start.sure ≡ true
+  pub decided : start.doubt ≡ None
+  pub first_decided : first.doubt ≡ None
+  pub faults : start.device.faults ≡ first.device.faults
+
+-- the rounds explain the outcomes
+pub rounds_explain : {first start now : EngineView} {asks : List Ask} {list : List Outcome} (since : IsRunSince first start asks now list) → Explains since.run.rounds first.standing asks list
+rounds_explain {first} {start} {now} {asks} {list} since = record {
+  legal = since.come.legal;
+  outcomes = subst (λ (s : Standing). Outcomes s since.run.rounds asks list) since.same since.run.outcomes;
+  few = omega (arith, since.run.few);
+}
+
+-- so do these and the one in doubt
+with_doubt_explain : {first start now : EngineView} {asks : List Ask} {list : List Outcome} (since : IsRunSince first start asks now list) (failed : FailedRound) → now.doubt ≡ Some failed → IsLegalRound (state_after first.standing since.run.rounds) failed.round → Explains (since.run.rounds ++ failed.round ∷ []) first.standing asks list
+with_doubt_explain {first} {start} {now} {asks} {list} since failed is legal = record {
+  legal = legal-push first.standing since.run.rounds failed.round since.come.legal legal;
+  outcomes = subst (λ (s : Standing). Outcomes s (since.run.rounds ++ failed.round ∷ []) asks list) since.same (since.run.in_doubt failed is);
+  few = omega (arith, since.run.few, ap rounds_in_doubt is, length-append since.run.rounds (failed.round ∷ []));
+}
+
+-- where no call failed the engine is sure
+calm_is_sure : {first start now : EngineView} {asks : List Ask} {list : List Outcome} (since : IsRunSince first start asks now list) → IsCalm first.device now.device → (now.sure ≡ true) × (now.doubt ≡ None)
+calm_is_sure {first} {start} {now} since calm =
+    let quiet = since.run.come.quiet (subst (λ (count : ℕ). ¬ Rose count now.device.faults) (sym since.faults) calm) in
+    (quiet.sure since.sure, quiet.doubt since.decided)
+
+-- nothing is done before the rounds
+abbrev pub NoneFirst : List LogOp → Type 0
+NoneFirst ops = ops ≡ []
+
+none_first : (ops : List LogOp) → IsBegun NoneFirst ops
+none_first ops = record { first = []; more = ops; whole = refl; parts = refl }
+
+-- what the run costs beside its rounds
+abbrev pub settlings_cost : Bool → Cost
+settlings_cost sure = record { fences = 0; syncs = settlings sure true }
+
+settled_with : {first start now : EngineView} {asks : List Ask} {list : List Outcome} (since : IsRunSince first start asks now list) (tale : Tale) (history : List LoggedRound) (left : IsCoveredExit tale now.device first.standing history (Some (state_after first.standing since.run.rounds) ∷ [])) → first.device.told ≡ Some tale → AreSealed history → rounds_in history ≡ since.run.rounds → IsCalm first.device now.device → IsSettled first.standing (settlings_cost first.sure) history (Some (state_after first.standing since.run.rounds) ∷ []) tale now.device left
+settled_with {first} {start} {now} since tale history left told sealed are calm =
+    let cost = since.come.cost tale told since.first_decided calm in
+    let same = same_ops tale now.device.told cost.ops left.ops cost.told left.told in
+    let many = as_many history ∙ ap length are in
+    let now_sure = (calm_is_sure since calm).0 in
+    record {
+      sealed = sealed;
+      alone = ap (λ (h : History). Some (state_after first.standing h) ∷ []) (sym are);
+      fences = omega (arith, ap fence_count same, cost.fences, many);
+      syncs = omega (arith, ap sync_count same, cost.syncs, ap (settlings first.sure) now_sure, many);
+    }
+
+-- the rounds are told and sealed
+logged_sealed : {first start now : EngineView} {asks : List Ask} {list : List Outcome} (since : IsRunSince first start asks now list) (tale : Tale) → first.device.told ≡ Some tale → IsSealedAfter tale now.device first.standing since.run.rounds → IsLogged first.standing NoneFirst (settlings_cost first.sure) asks list first.device tale now.device
+logged_sealed {first} {start} {now} {asks} {list} since tale told after = record {
+  history = after.history;
+  members = Some (state_after first.standing since.run.rounds) ∷ [];
+  left = after.left;
+  begun = none_first after.left.ops;
+  explained = subst (λ (h : History). Explains h first.standing asks list) (sym after.rounds_are) (rounds_explain since);
+  new_sealed = first_sealed since.run.rounds after.history [] asks list (after.rounds_are ∙ sym (append-nil since.run.rounds)) (λ place inside. sealed_by_place after.history place after.sealed (omega (arith, inside, as_many after.history, ap length after.rounds_are))) since.run.recorded;
+  settled = settled_with since tale after.history after.left told after.sealed after.rounds_are;
+}
+
+-- nothing was settled yet, and no request was served
+logged_found : {first start now : EngineView} {asks : List Ask} {list : List Outcome} (since : IsRunSince first start asks now list) (tale : Tale) (members : List (Option Standing)) → now.sure ≡ false → since.run.rounds ≡ [] → IsStillFound tale members now.device first.standing → IsLogged first.standing NoneFirst (settlings_cost first.sure) asks list first.device tale now.device
+logged_found {first} {start} {now} {asks} {list} since tale members unsure none still = record {
+  history = [];
+  members = members;
+  left = still.left;
+  begun = none_first still.left.ops;
+  explained = subst (λ (h : History). Explains h first.standing asks list) none (rounds_explain since);
+  new_sealed = first_sealed [] [] [] asks list refl (λ place inside. absurd (omega (arith, inside))) (subst (λ (h : History). AreNewRecorded h (zip asks list)) none since.run.recorded);
+  settled = λ calm. absurd (cc ((calm_is_sure since calm).0, unsure));
+}
+
+-- a round is in doubt after them
+logged_in_doubt : {first start now : EngineView} {asks : List Ask} {list : List Outcome} (since : IsRunSince first start asks now list) (tale : Tale) (failed : FailedRound) → now.doubt ≡ Some failed → IsInDoubtAfter tale now.device first.standing since.run.rounds failed.round → IsLogged first.standing NoneFirst (settlings_cost first.sure) asks list first.device tale now.device
+logged_in_doubt {first} {start} {now} {asks} {list} since tale failed is after = by_state after.state
+  where
+    never : IsCalm first.device now.device → ⊥
+    never calm = cc ((calm_is_sure since calm).1, is)
+
+    told_end : IfSome now.device.told (λ end. HasRoundLanded end.base end.log (state_after first.standing since.run.rounds) failed.round) → HasRoundLanded tale.base (tale.log ++ after.left.ops) (state_after first.standing since.run.rounds) failed.round
+    told_end landed = from_told (λ (end : Tale). HasRoundLanded end.base end.log (state_after first.standing since.run.rounds) failed.round) now.device.told (with_ops after.left.ops tale) after.left.told landed
+
+    one : HasOneUnsealedAtMost after.history
+    one =
+        let log = tale.log ++ after.left.ops in
+        subst HasOneUnsealedAtMost (ap (λ (l : List LogOp). history_of tale.base l (length tale.log)) (take_all (length log) log (omega arith)) ∙ sym after.left.exit.covers.told)
+        (after.left.exit.one_unsealed (length log) (omega (arith, length-append tale.log after.left.ops)) (omega arith))
+
+    by_state : (AreSealed after.history × (rounds_in after.history ≡ since.run.rounds) × IfSome now.device.told (λ end. IsRoundInDoubt end.base end.log (state_after first.standing since.run.rounds) failed.round))
+        ⊎ ((rounds_in after.history ≡ since.run.rounds ++ failed.round ∷ []) × IfSome now.device.told (λ end. HasRoundLanded end.base end.log (state_after first.standing since.run.rounds) failed.round))
+        → IsLogged first.standing NoneFirst (settlings_cost first.sure) asks list first.device tale now.device
+    by_state (inl (sealed, are, still)) = record {
+      history = after.history;
+      members = either_state (state_after first.standing since.run.rounds) failed.round;
+      left = after.left;
+      begun = none_first after.left.ops;
+      explained = subst (λ (h : History). Explains h first.standing asks list) (sym are) (rounds_explain since);
+      new_sealed = first_sealed since.run.rounds after.history [] asks list (are ∙ sym (append-nil since.run.rounds)) (λ place inside. sealed_by_place after.history place sealed (omega (arith, inside, as_many after.history, ap length are))) since.run.recorded;
+      settled = λ calm. absurd (never calm);
+    }
+    by_state (inr (are, landed)) =
+        let many : length after.history ≡ length since.run.rounds + 1 = as_many after.history ∙ (ap length are ∙ length-append since.run.rounds (failed.round ∷ [])) in
+        record {
+          history = after.history;
+          members = either_state (state_after first.standing since.run.rounds) failed.round;
+          left = after.left;
+          begun = none_first after.left.ops;
+          explained = subst (λ (h : History). Explains h first.standing asks list) (sym are) (with_doubt_explain since failed is (told_end landed).legal);
+          new_sealed = first_sealed since.run.rounds after.history (failed.round ∷ []) asks list are (λ place inside. all_but_last after.history (length since.run.rounds) place one many inside) since.run.recorded;
+          settled = λ calm. absurd (never calm);
+        }
+
+-- whatever became of it
+pub logged_since : {first start now : EngineView} {asks : List Ask} {list : List Outcome} (since : IsRunSince first start asks now list) (tale : Tale) (members : List (Option Standing)) → BeginsAt tale members first → IsLogged first.standing NoneFirst (settlings_cost first.sure) asks list first.device tale now.device
+logged_since {first} {start} {now} {asks} {list} since tale members begins = by_doubt now.doubt refl
+  where
+    covered : IsCovered tale members first.standing now since.run.rounds
+    covered = since.come.covered tale members begins
+
+    by_decided : IsDecidedAfter tale members now first.standing since.run.rounds → IsLogged first.standing NoneFirst (settlings_cost first.sure) asks list first.device tale now.device
+    by_decided (inl after) = logged_sealed since tale begins.told after
+    by_decided (inr (unsure, none, still)) = logged_found since tale members unsure none still
+
+    by_called : (failed : FailedRound) (called : Bool) → now.doubt ≡ Some failed → failed.called ≡ called → IsLogged first.standing NoneFirst (settlings_cost first.sure) asks list first.device tale now.device
+    by_called failed true is called = logged_in_doubt since tale failed is (covered.in_doubt failed is called)
+    by_called failed false is uncalled = by_decided (covered.decided (ap was_called is ∙ uncalled))
+
+    by_doubt : (doubt : Option FailedRound) → now.doubt ≡ doubt → IsLogged first.standing NoneFirst (settlings_cost first.sure) asks list first.device tale now.device
+    by_doubt None is = by_decided (covered.decided (ap was_called is))
+    by_doubt (Some failed) is = by_called failed failed.called is refl

@@ -1,0 +1,12 @@
+-- What a call of the program comes to.
+use Rattle.std.specs.Prelude.{List}
+use Rattle.pb_object.specs.declared.request.Ask.{Ask}
+use Rattle.pb_object.specs.Standing.{Standing}
+use Rattle.pb_report.specs.declared.outcome.Outcome.{Outcome}
+use Rattle.pb_broker.specs.declared.stop.Stop.{Stop}
+
+-- it stopped before its work was done; or requests were run, with these outcomes; or a standing was reported
+pub data Ending : Type 0 where
+  Stopped : Stop → Ending
+  Served : List Ask → List Outcome → Ending
+  Reported : Standing → Ending

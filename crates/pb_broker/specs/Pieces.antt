@@ -1,9 +1,0 @@
--- Text that is kept back and leaves in pieces.
-use Rattle.std.specs.Prelude.{◌≡◌, ℕ, List, Option, ◌++◌}
-use Rattle.std.specs.Io.KnownBytes.{Appends}
-
--- what left, and what is pending now, is what was pending and the text
-pub record Passes (old new : Option (List ℕ)) (before after text : List ℕ) : Type 0 where
-  pub gone : List ℕ
-  pub written : Appends old new gone
-  pub whole : gone ++ after ≡ before ++ text

@@ -1,0 +1,137 @@
+//! Making a region, and running a script on it.
+ghost use Rattle.std.specs.Prelude.{◌≡◌, All, IfOk, IfErr, MatchResult};
+ghost use Rattle.pb_object.specs.declared.kind.Kind.TheVariants.{Queue};
+ghost use Rattle.pb_script.specs.Script.{IsAskOf};
+ghost use Rattle.pb_broker.specs.Call.{Call};
+ghost use Rattle.pb_broker.specs.Comes.{IsScriptOf, ServesFresh, StopsFresh};
+ghost use Rattle.pb_broker.specs.Reading.{IsWhole, reading};
+ghost use Rattle.pb_broker.specs.Serving.{StopsPreparing, ServesNew, IsNotMade};
+
+use crate::command::{Ran, refused};
+use crate::requests::{Requests, read_requests, serve};
+use crate::source::read_all;
+use crate::stop::Stop;
+use pb_comb::Comb;
+use pb_heap::MinHeap;
+use pb_io::{Gate, Source};
+use pb_layout::Header;
+use pb_map::RegMap;
+use pb_object::{Kind, Object};
+use pb_pmem::Pmem;
+use pb_queue::TwinQueue;
+use pb_stack::Stack;
+use std::alloc::Global;
+
+/// Reads the source's script, makes a region on the device, and runs the script on it.
+///
+/// The lines are judged before the device is called, and all memory is taken before it is written to.
+pub fn fresh<S: Source, P: Pmem, G: Gate>(
+    alloc: Global,
+    head: &Header,
+    source: &mut S,
+    device: P,
+    gate: &G,
+) -> Ran<P>
+    ensures { let call : Call = record {
+      read = reading (S.rest source.old) (S.rest source.new) (S.fault_count source.old) (S.fault_count source.new);
+      before = P.seen device;
+      after = P.seen result.device;
+    } in
+        MatchResult result.served (λ requests. ServesFresh head.now call requests.asks.items requests.outcomes.items) (StopsFresh head.now call) }
+{
+    match prepare(alloc, head, source) {
+        Ok(requests) => run_new(alloc, head, requests, device, gate),
+        Err(stop) => Ran {
+            served: Err(stop),
+            device,
+        },
+    }
+}
+
+/// Reads the source, and judges its lines.
+fn prepare<S: Source>(alloc: Global, head: &Header, source: &mut S) -> Result<Requests, Stop>
+    ensures script { let read = reading (S.rest source.old) (S.rest source.new) (S.fault_count source.old) (S.fault_count source.new) in
+        IfOk result (λ requests. IsWhole (IsScriptOf head.now.kind head.now.clients requests.asks.items) read) }
+    ensures asks { IfOk result (λ requests. All (IsAskOf head.now.kind head.now.clients) requests.asks.items) }
+    ensures err { let read = reading (S.rest source.old) (S.rest source.new) (S.fault_count source.old) (S.fault_count source.new) in
+        IfErr result (StopsPreparing head.now.kind head.now.clients read) }
+{
+    let bytes = read_all(alloc, source)?;
+    read_requests(alloc, &bytes, head.kind, head.clients)
+}
+
+/// Makes the region of the header's kind, and runs requests on it.
+fn run_new<P: Pmem, G: Gate>(
+    alloc: Global,
+    head: &Header,
+    requests: Requests,
+    device: P,
+    gate: &G,
+) -> Ran<P>
+    requires { All (IsAskOf head.now.kind head.now.clients) requests.asks.items }
+    ensures asks { IfOk result.served (λ served. served.asks.items ≡ requests.asks.items) }
+    ensures ran { MatchResult result.served
+        (λ served. ServesNew head.now (P.seen device) (P.seen result.device) served.asks.items served.outcomes.items)
+        (IsNotMade head.now (P.seen device) (P.seen result.device)) }
+{
+    match head.kind {
+        Kind::Map => run_comb::<RegMap, P, G>(alloc, head, requests, device, gate),
+        Kind::Stack => run_comb::<Stack, P, G>(alloc, head, requests, device, gate),
+        Kind::Heap => run_comb::<MinHeap, P, G>(alloc, head, requests, device, gate),
+        Kind::Queue => run_queue(alloc, head, requests, device, gate),
+    }
+}
+
+/// The same where the object is combined by one engine.
+fn run_comb<O: Object, P: Pmem, G: Gate>(
+    alloc: Global,
+    head: &Header,
+    requests: Requests,
+    device: P,
+    gate: &G,
+) -> Ran<P>
+    requires kind { head.now.kind ≡ O.KIND }
+    requires asks { All (IsAskOf head.now.kind head.now.clients) requests.asks.items }
+    ensures asks { IfOk result.served (λ served. served.asks.items ≡ requests.asks.items) }
+    ensures ran { MatchResult result.served
+        (λ served. ServesNew head.now (P.seen device) (P.seen result.device) served.asks.items served.outcomes.items)
+        (IsNotMade head.now (P.seen device) (P.seen result.device)) }
+{
+    match Comb::<O, P>::fresh(alloc, device, head.clients, head.size) {
+        Ok(mut comb) => {
+            let served = serve(&mut comb, requests, gate);
+            Ran {
+                served: Ok(served),
+                device: comb.close(),
+            }
+        }
+        Err(why) => refused(why),
+    }
+}
+
+/// The same where the object is a queue.
+fn run_queue<P: Pmem, G: Gate>(
+    alloc: Global,
+    head: &Header,
+    requests: Requests,
+    device: P,
+    gate: &G,
+) -> Ran<P>
+    requires kind { head.now.kind ≡ Queue }
+    requires asks { All (IsAskOf head.now.kind head.now.clients) requests.asks.items }
+    ensures asks { IfOk result.served (λ served. served.asks.items ≡ requests.asks.items) }
+    ensures ran { MatchResult result.served
+        (λ served. ServesNew head.now (P.seen device) (P.seen result.device) served.asks.items served.outcomes.items)
+        (IsNotMade head.now (P.seen device) (P.seen result.device)) }
+{
+    match TwinQueue::fresh(alloc, device, head.clients, head.size) {
+        Ok(mut queue) => {
+            let served = serve(&mut queue, requests, gate);
+            Ran {
+                served: Ok(served),
+                device: queue.close(),
+            }
+        }
+        Err(why) => refused(why),
+    }
+}

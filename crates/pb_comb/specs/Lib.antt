@@ -1,0 +1,3 @@
+pub mod OneSide
+pub mod Serving
+pub mod View

@@ -1,0 +1,12 @@
+pub mod Client
+pub mod DeviceParts
+pub mod Fresh
+pub mod Laws
+pub mod Memory
+pub mod Possible
+pub mod WordMoves
+pub mod World
+pub mod WorldMoves
+pub mod HolderMoves
+pub mod MemoryParts
+pub mod MemoryRun

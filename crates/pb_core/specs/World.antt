@@ -1,0 +1,66 @@
+-- The world: what stands in memory, and the device with the calls that are being made.
+use Rattle.std.specs.Prelude.{◌≡◌, ℕ, ◌+◌, ◌<◌, List, [], ◌∷◌, ◌++◌, length}
+use Rattle.std.specs.List.{AllByRecursion}
+use Rattle.pb_pmem.specs.declared.line.Line.{Line}
+use Rattle.pb_pmem.specs.declared.log.LogOp.{LogOp}
+use Rattle.pb_pmem.specs.declared.log.LogOp.TheVariants.{Whole, Word, Back, Fence, Sync}
+use Rattle.pb_pmem.specs.Contents.{contents}
+use Rattle.pb_pmem.specs.Device.{Tale}
+use Rattle.pb_pmem.specs.Lines.{line_at}
+use Rattle.pb_object.specs.History.{Round}
+use Rattle.pb_object.specs.Object.{State}
+use Rattle.pb_object.specs.Standing.{Standing, rounds_of}
+use Rattle.pb_layout.specs.declared.header.Header.{Header}
+use Rattle.pb_layout.specs.Cell.{cell_line_of}
+use Rattle.pb_layout.specs.NextRecord.{IsNextRecord, HasCells}
+use Rattle.pb_layout.specs.PutCell.{put_cell_ops, IsFreePosition}
+use Rattle.pb_layout.specs.RegionOps.{spare_place, store_by}
+use Rattle.pb_layout.specs.Represents.{header_for}
+use Rattle.pb_layout.specs.Stages.{StagesRecord}
+use Rattle.pb_core.specs.Memory.{Memory}
+
+-- the calls of the device that are being made: the log when they began, those made since, and those to make
+pub data Progress : Type 0 where
+  NoCall : Progress
+  InCall : (entry made left : List LogOp) → Progress
+
+pub record World : Type 0 where
+  pub memory : Memory
+  pub tale : Tale
+  pub progress : Progress
+
+-- The calls of a round
+
+-- an item that is put into a queue, at its position
+pub record Put : Type 0 where
+  pub position : ℕ
+  pub value : ℕ
+
+abbrev pub cell_ops : Header → List Put → List LogOp
+cell_ops head [] = []
+cell_ops head (put ∷ puts) = put_cell_ops head put.position (cell_line_of put.position put.value) ++ cell_ops head puts
+
+abbrev pub AreFree : State → List Put → Type 0
+AreFree state [] = Unit {0}
+AreFree state (put ∷ puts) = IsFreePosition state put.position × AreFree state puts
+
+-- the write of a line of a record from a place on
+abbrev pub WritesLine : ℕ → List Line → LogOp → Type 0
+WritesLine first lines (Whole line to) = (place : ℕ) × (place < length lines) × (line ≡ first + place) × (to ≡ line_at lines place)
+WritesLine first lines (Word line word to) = ⊥
+WritesLine first lines (Back at count) = ⊥
+WritesLine first lines Fence = ⊥
+WritesLine first lines Sync = ⊥
+
+-- the calls of a round, over a device that holds s: the cells of the items that it puts; lines of the next record where the spare one is, each
+-- that differs and perhaps others, in any order and any number of times; and then the store's last calls
+pub record IsRoundPlan (tale : Tale) (s : Standing) (round : Round) (plan : List LogOp) : Type 0 where
+  pub puts : List Put
+  pub free : AreFree s.state puts
+  pub cells : HasCells tale.base (tale.log ++ cell_ops (header_for s) puts) s round
+  pub lines : List Line
+  pub next : IsNextRecord (contents tale.base (tale.log ++ cell_ops (header_for s) puts)) s round lines
+  pub writes : List LogOp
+  pub new : AllByRecursion (WritesLine (spare_place (header_for s) round.side (rounds_of s round.side)) lines) writes
+  pub staged : StagesRecord (spare_place (header_for s) round.side (rounds_of s round.side)) lines (contents tale.base (tale.log ++ cell_ops (header_for s) puts)) writes
+  pub is : plan ≡ cell_ops (header_for s) puts ++ store_by writes (header_for s) round.side (rounds_of s round.side)

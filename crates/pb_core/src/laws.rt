@@ -1,0 +1,79 @@
+//! The laws of the core. These functions are here for their contracts.
+ghost use Rattle.std.specs.Prelude.{◌≡◌, ℕ, ◌<◌, List, length};
+ghost use Rattle.pb_layout.specs.declared.header.Header.{Header};
+ghost use Rattle.pb_object.specs.Standing.{Standing};
+ghost use Rattle.pb_core.specs.declared.event.Event.{Event};
+ghost use Rattle.pb_core.specs.declared.event.Stepped.{Stepped};
+ghost use Rattle.pb_core.specs.DeviceParts.{IsWorld};
+ghost use Rattle.pb_core.specs.Fresh.{IsFresh};
+ghost use Rattle.pb_core.specs.HolderMoves.{Begins};
+ghost use Rattle.pb_core.specs.Laws.{IsOneHistory, IsToldByLog, IsCaused, IsScannedRound};
+ghost use Rattle.pb_core.specs.Memory.{Memory, clients_of};
+ghost use Rattle.pb_core.specs.MemoryParts.{IsMemory};
+ghost use Rattle.pb_core.specs.MemoryRun.{begun, MemoryRun};
+ghost use Rattle.pb_core.specs.Possible.{IsExact};
+ghost use Rattle.pb_core.specs.World.{World};
+ghost use Rattle.pb_core.specs.WorldMoves.{Next, Run};
+
+/// Over a region that was just formatted all that is to hold of the world holds.
+pub fn holds_at_first()
+    ensures { (head : Header) (w : World) → IsFresh head w → IsWorld w }
+{}
+
+/// Each event keeps it: a step of a client on a word or on the device, one that fails, a crash, and opening the region again.
+pub fn each_event_keeps_it()
+    ensures { (old : World) (event : Event) (new : World) (answer : Stepped)
+        → IsWorld old
+        → Next old event new answer
+        → IsWorld new }
+{}
+
+/// The parts that speak of memory alone hold over any standing that a device is known to hold ..
+pub fn memory_begins_well()
+    ensures { (s : Standing) → length s.kept ≡ s.clients → IsMemory (begun s) }
+{}
+
+/// .. and are kept by each request, each step on a word and each answer of the device to its holder, whatever the device is.
+pub fn each_move_keeps_memory()
+    ensures { (count : ℕ) (old new : Memory) → IsMemory old → MemoryRun count old new → IsMemory new }
+{}
+
+/// A scan that is over saw a legal round: it isn't empty, its clients rise, each of its requests is its client's next, and the holder's own
+/// request is among them.
+pub fn a_scan_sees_a_legal_round()
+    ensures { (old : Memory) (client : ℕ) (new : Memory)
+        → IsMemory old
+        → client < clients_of old
+        → (begins : Begins old client new)
+        → IsScannedRound old client new begins }
+{}
+
+/// Over any events, in any order, with crashes anywhere: there is one legal history, no request stands in it twice, each answered request
+/// stands in it with its reply, and so it does in what each further crash may leave.
+pub fn every_run_has_one_history()
+    ensures { (head : Header) (first last : World) (events : List Event) (answers : List Stepped)
+        → IsFresh head first
+        → Run first events answers last
+        → IsOneHistory last answers }
+{}
+
+/// That history is no record of the world's own: the device's log tells it, and covers it.
+pub fn the_log_tells_the_history()
+    ensures { (w : World) → IsWorld w → IsToldByLog w }
+{}
+
+/// Each event is possible exactly where it may be: asking for an idle client under its next number, a step for a client that isn't idle, a
+/// crash at each cut that the device's log has, and opening the region again until that is done. So no stage is stuck, and no crash that
+/// the device may meet is left out. A step that begins the calls of a round asks for lines of that round's record.
+pub fn events_are_possible_exactly()
+    ensures { (w : World) → IsWorld w → IsExact w }
+{}
+
+/// A client that is answered without a reply is told the cause: two turn words that differ, or the word of a turn that is held, or a
+/// count of faults that rose to what it is.
+pub fn each_answer_has_its_cause()
+    ensures { (old : World) (event : Event) (new : World) (answer : Stepped)
+        → IsWorld old
+        → Next old event new answer
+        → IsCaused answer new.memory }
+{}

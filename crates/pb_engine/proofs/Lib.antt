@@ -1,0 +1,7 @@
+pub mod Coming
+pub mod Costs
+pub mod Entries
+pub mod Pairs
+pub mod Joining
+pub mod Known
+pub mod Served

@@ -1,0 +1,5 @@
+use Rattle.pb_engine.proofs.Coming.{after_round_failed}
+use Rattle.pb_engine.proofs.laws.after_a_failed_round.Goals as goal
+
+pub returns : goal.returns
+returns c = after_round_failed

@@ -1,0 +1,9 @@
+pub mod Asks
+pub mod Covers
+pub mod Good
+pub mod Next
+pub mod Opening
+pub mod Operations
+pub mod Outcomes
+pub mod Pairs
+pub mod View

@@ -1,0 +1,17 @@
+pub mod AnsweredRequests
+pub mod CellExits
+pub mod Finished
+pub mod Made
+pub mod Opening
+pub mod Prepared
+pub mod PutCells
+pub mod QueueRecords
+pub mod ReadCells
+pub mod RecoveredRegion
+pub mod RingLemmas
+pub mod RingViews
+pub mod Rounds
+pub mod Served
+pub mod Settling
+pub mod Sound
+pub mod Standings

@@ -1,0 +1,21 @@
+-- A queue's items in a state.
+use Rattle.std.specs.Prelude.{ℕ, List}
+use Rattle.pb_object.specs.Object.{State, Registers, Items, Rising, Waits}
+use Rattle.pb_object.specs.Queue.{Waiting, empty_queue, tail_of}
+
+-- what waits; nothing in a state of another kind
+abbrev pub waiting_of : State → Waiting
+waiting_of (Registers registers) = empty_queue
+waiting_of (Items size items) = empty_queue
+waiting_of (Rising size items) = empty_queue
+waiting_of (Waits size queue) = queue
+
+-- the position of the first item that waits, and that of the next one that is put
+abbrev pub taken_in : State → ℕ
+taken_in state = (waiting_of state).taken
+
+abbrev pub tail_in : State → ℕ
+tail_in state = tail_of (waiting_of state)
+
+abbrev pub items_in : State → List ℕ
+items_in state = (waiting_of state).items

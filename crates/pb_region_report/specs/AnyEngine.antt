@@ -1,0 +1,29 @@
+-- An engine of any kind, and why its report wasn't written.
+use Rattle.std.specs.Prelude.{◌≡◌, ℕ, List, Option, Result, Ok, Err}
+use Rattle.std.specs.Io.KnownBytes.{Keeps}
+use Rattle.pb_pmem.specs.Count.{Rose}
+use Rattle.pb_io.specs.declared.sink.SinkFault.{SinkFault}
+use Rattle.pb_io.specs.SinkBytes.{AppendsSome}
+use Rattle.pb_engine.specs.View.{EngineView}
+use Rattle.pb_region_report.specs.declared.any.AnyEngine.{AnyEngine}
+use Rattle.pb_region_report.specs.declared.any.AnyEngine.TheVariants.{Map, Stack, Heap, Queue}
+use Rattle.pb_region_report.specs.declared.unwritten.Unwritten.{Unwritten}
+use Rattle.pb_region_report.specs.declared.unwritten.Unwritten.TheVariants.{Memory, Sink}
+
+-- the engine, whichever kind it is of
+abbrev pub view_of : {P : Type 0} → AnyEngine P → EngineView
+view_of (Map comb) = comb
+view_of (Stack comb) = comb
+view_of (Heap comb) = comb
+view_of (Queue queue) = queue
+
+-- what became of the sink's bytes and its count of faults: as before where memory ran out, and else the count rose and some of the
+-- first bytes of the text are written
+abbrev pub IsUnwritten : Option (List ℕ) → Option (List ℕ) → ℕ → ℕ → List ℕ → Unwritten → Type 0
+IsUnwritten old new before now text Memory = Keeps old new × (now ≡ before)
+IsUnwritten old new before now text Sink = AppendsSome old new text × Rose before now
+
+-- a sink's fault is why
+abbrev pub told : {T : Type 0} → Result T SinkFault → Result T Unwritten
+told (Ok done) = Ok done
+told (Err fault) = Err Sink

@@ -1,0 +1,9 @@
+pub mod Asking
+pub mod Finding
+pub mod Lines
+pub mod Recorded
+pub mod Serving
+pub mod Settling
+pub mod Stepping
+pub mod Steps
+pub mod Whole

@@ -1,0 +1,41 @@
+//! What to do behind a status, for whoever ran the program.
+use pb_broker::Status;
+
+const COMMANDS: &str = "pbcomb: the commands are\n\
+    \x20 pbcomb DEVICE fresh KIND CLIENTS SIZE   make a region, and run the script on standard input\n\
+    \x20 pbcomb DEVICE run                       run the script on the region that is there\n\
+    \x20 pbcomb DEVICE report                    print what the region holds\n\
+    KIND is map, stack, heap or queue, CLIENTS is 1 to 16, SIZE is 1 to 1024, and DEVICE is - for a trial\n\
+    device that is gone at the end.";
+
+/// What a status means and what may be done, in a few lines. Nothing behind `Done`.
+pub fn advice(status: Status) -> &'static str {
+    match status {
+        Status::Done => "",
+        Status::OutOfMemory =>
+            "pbcomb: memory ran out. No request was applied: run it again with more memory.",
+        Status::Usage => COMMANDS,
+        Status::Refused => {
+            "pbcomb: nothing was done. `line N`: line N of the script is no request of this kind, or its number isn't the next \
+            one\nof its client. `many`: the script has more than 32768 requests. `long`: it has more than 4194304 bytes."
+        }
+        Status::ReadFault =>
+            "pbcomb: standard input couldn't be read. Nothing was done: run it again.",
+        Status::WriteFault => {
+            "pbcomb: standard output couldn't be written. Requests may be applied all the same: run the same script again\n\
+            and each is answered, and none is applied twice."
+        }
+        Status::DeviceFault => {
+            "pbcomb: a call of the device failed. `doubt`: the request may be applied or not. Run the same script again, and\n\
+            each request is answered, and none is applied twice."
+        }
+        Status::Unusable => {
+            "pbcomb: nothing was done. `none`: the device has no region; `fresh` makes one. `taken`: it has one; `run` goes on\n\
+            with it. `damaged L`: line L of its region isn't as the format wants it."
+        }
+        Status::Misnumbered => {
+            "pbcomb: `gap`: the client left out a number; ask with the one after its last. `changed`: another operation was\n\
+            asked for under this number; ask with a new one. `left`: its later requests weren't tried."
+        }
+    }
+}
