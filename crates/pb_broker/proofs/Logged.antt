@@ -139,18 +139,20 @@ logged_sealed {first} {start} {now} {asks} {list} since tale told after = record
   members = Some (state_after first.standing since.run.rounds) ∷ [];
   left = after.left;
   begun = none_first after.left.ops;
+  around = inl (ap (λ (h : History). Some (state_after first.standing h) ∷ []) (sym after.rounds_are));
   explained = subst (λ (h : History). Explains h first.standing asks list) (sym after.rounds_are) (rounds_explain since);
   new_sealed = first_sealed since.run.rounds after.history [] asks list (after.rounds_are ∙ sym (append-nil since.run.rounds)) (λ place inside. sealed_by_place after.history place after.sealed (omega (arith, inside, as_many after.history, ap length after.rounds_are))) since.run.recorded;
   settled = settled_with since tale after.history after.left told after.sealed after.rounds_are;
 }
 
 -- nothing was settled yet, and no request was served
-logged_found : {first start now : EngineView} {asks : List Ask} {list : List Outcome} (since : IsRunSince first start asks now list) (tale : Tale) (members : List (Option Standing)) → now.sure ≡ false → since.run.rounds ≡ [] → IsStillFound tale members now.device first.standing → IsLogged first.standing NoneFirst (settlings_cost first.sure) asks list first.device tale now.device
-logged_found {first} {start} {now} {asks} {list} since tale members unsure none still = record {
+logged_found : {first start now : EngineView} {asks : List Ask} {list : List Outcome} (since : IsRunSince first start asks now list) (tale : Tale) → now.sure ≡ false → since.run.rounds ≡ [] → IsStillFound tale (Some first.standing ∷ []) now.device first.standing → IsLogged first.standing NoneFirst (settlings_cost first.sure) asks list first.device tale now.device
+logged_found {first} {start} {now} {asks} {list} since tale unsure none still = record {
   history = [];
-  members = members;
+  members = Some first.standing ∷ [];
   left = still.left;
   begun = none_first still.left.ops;
+  around = inl refl;
   explained = subst (λ (h : History). Explains h first.standing asks list) none (rounds_explain since);
   new_sealed = first_sealed [] [] [] asks list refl (λ place inside. absurd (omega (arith, inside))) (subst (λ (h : History). AreNewRecorded h (zip asks list)) none since.run.recorded);
   settled = λ calm. absurd (cc ((calm_is_sure since calm).0, unsure));
@@ -180,6 +182,7 @@ logged_in_doubt {first} {start} {now} {asks} {list} since tale failed is after =
       members = either_state (state_after first.standing since.run.rounds) failed.round;
       left = after.left;
       begun = none_first after.left.ops;
+      around = inr (since.run.rounds, failed.round, refl, inl are);
       explained = subst (λ (h : History). Explains h first.standing asks list) (sym are) (rounds_explain since);
       new_sealed = first_sealed since.run.rounds after.history [] asks list (are ∙ sym (append-nil since.run.rounds)) (λ place inside. sealed_by_place after.history place sealed (omega (arith, inside, as_many after.history, ap length are))) since.run.recorded;
       settled = λ calm. absurd (never calm);
@@ -191,21 +194,22 @@ logged_in_doubt {first} {start} {now} {asks} {list} since tale failed is after =
           members = either_state (state_after first.standing since.run.rounds) failed.round;
           left = after.left;
           begun = none_first after.left.ops;
+          around = inr (since.run.rounds, failed.round, refl, inr are);
           explained = subst (λ (h : History). Explains h first.standing asks list) (sym are) (with_doubt_explain since failed is (told_end landed).legal);
           new_sealed = first_sealed since.run.rounds after.history (failed.round ∷ []) asks list are (λ place inside. all_but_last after.history (length since.run.rounds) place one many inside) since.run.recorded;
           settled = λ calm. absurd (never calm);
         }
 
 -- whatever became of it
-pub logged_since : {first start now : EngineView} {asks : List Ask} {list : List Outcome} (since : IsRunSince first start asks now list) (tale : Tale) (members : List (Option Standing)) → BeginsAt tale members first → IsLogged first.standing NoneFirst (settlings_cost first.sure) asks list first.device tale now.device
-logged_since {first} {start} {now} {asks} {list} since tale members begins = by_doubt now.doubt refl
+pub logged_since : {first start now : EngineView} {asks : List Ask} {list : List Outcome} (since : IsRunSince first start asks now list) (tale : Tale) → BeginsAt tale (Some first.standing ∷ []) first → IsLogged first.standing NoneFirst (settlings_cost first.sure) asks list first.device tale now.device
+logged_since {first} {start} {now} {asks} {list} since tale begins = by_doubt now.doubt refl
   where
-    covered : IsCovered tale members first.standing now since.run.rounds
-    covered = since.come.covered tale members begins
+    covered : IsCovered tale (Some first.standing ∷ []) first.standing now since.run.rounds
+    covered = since.come.covered tale (Some first.standing ∷ []) begins
 
-    by_decided : IsDecidedAfter tale members now first.standing since.run.rounds → IsLogged first.standing NoneFirst (settlings_cost first.sure) asks list first.device tale now.device
+    by_decided : IsDecidedAfter tale (Some first.standing ∷ []) now first.standing since.run.rounds → IsLogged first.standing NoneFirst (settlings_cost first.sure) asks list first.device tale now.device
     by_decided (inl after) = logged_sealed since tale begins.told after
-    by_decided (inr (unsure, none, still)) = logged_found since tale members unsure none still
+    by_decided (inr (unsure, none, still)) = logged_found since tale unsure none still
 
     by_called : (failed : FailedRound) (called : Bool) → now.doubt ≡ Some failed → failed.called ≡ called → IsLogged first.standing NoneFirst (settlings_cost first.sure) asks list first.device tale now.device
     by_called failed true is called = logged_in_doubt since tale failed is (covered.in_doubt failed is called)

@@ -58,7 +58,7 @@ no_cost = record { fences = 0; syncs = 0 }
 since_sure : {start now : EngineView} {asks : List Ask} {list : List Outcome} (tale : Tale) → start.sure ≡ true → start.doubt ≡ None → HasRun start asks now list → BeginsAt tale (Some start.standing ∷ []) start → IsLogged start.standing NoneFirst no_cost asks list start.device tale now.device
 since_sure {start} {now} {asks} {list} tale sure decided run begins =
     subst (λ (b : Bool). IsLogged start.standing NoneFirst (settlings_cost b) asks list start.device tale now.device) sure
-    (logged_since (sure_since sure decided run) tale (Some start.standing ∷ []) begins)
+    (logged_since (sure_since sure decided run) tale begins)
 
 -- the first operations go before those of the run
 logged_behind : {s : Standing} {asks : List Ask} {list : List Outcome} {before mid after : Device} (tale : Tale) (IsFirst : List LogOp → Type 0) (cost : Cost) (made : IsCoveredExit tale mid s [] (Some s ∷ [])) (first : List LogOp) → mid.told ≡ Some (with_ops first tale) → IsFirst first → fence_count first ≡ cost.fences → sync_count first ≡ cost.syncs → mid.faults ≡ before.faults → IsLogged s NoneFirst no_cost asks list mid (with_ops made.ops tale) after → IsLogged s IsFirst cost asks list before tale after
@@ -67,6 +67,7 @@ logged_behind {s} {asks} {list} {before} {mid} {after} tale IsFirst cost made fi
   members = inner.members;
   left = left;
   begun = record { first = first; more = inner.left.ops; whole = whole; parts = all_ops ∙ ap (λ (ops : List LogOp). ops ++ inner.left.ops) ops_are };
+  around = inner.around;
   explained = inner.explained;
   new_sealed = inner.new_sealed;
   settled = λ calm.

@@ -1,14 +1,15 @@
 -- What a script that was run comes to, and what a crash may leave of the run.
-use Rattle.std.specs.Prelude.{◌≡◌, ℕ, ◌+◌, ◌<◌, ◌≤◌, true, false, List, [], ◌∷◌, Option, Some, None, Contains, length, count_by, slice_index_or, ◌++◌}
+use Rattle.std.specs.Prelude.{◌≡◌, ℕ, ◌+◌, ◌<◌, ◌≤◌, true, false, List, [], ◌∷◌, Option, Some, None, Contains, length, count_by, slice_index_or, ◌++◌, ◌⊎◌}
 use Rattle.pb_pmem.specs.declared.line.Line.{Line}
 use Rattle.pb_pmem.specs.declared.log.LogOp.{LogOp}
 use Rattle.pb_pmem.specs.Count.{Rose}
 use Rattle.pb_pmem.specs.Device.{Device, Tale}
 use Rattle.pb_pmem.specs.Operations.{Stops, IsFailedPrefix}
 use Rattle.pb_object.specs.declared.request.Ask.{Ask}
-use Rattle.pb_object.specs.History.{History, IsLegal, state_after}
+use Rattle.pb_object.specs.History.{Round, History, IsLegal, state_after}
 use Rattle.pb_object.specs.Standing.{Standing}
 use Rattle.pb_layout.specs.declared.header.Header.{Header}
+use Rattle.pb_layout.specs.Doubt.{either_state}
 use Rattle.pb_layout.specs.Exits.{AreEmptyRecords}
 use Rattle.pb_layout.specs.LogHistory.{LoggedRound, rounds_in, AreSealed}
 use Rattle.pb_layout.specs.RegionOps.{format_ops, settle_to}
@@ -82,17 +83,26 @@ pub record AreMaking (head : Header) (ops : List LogOp) : Type 0 where
 abbrev pub AreSettling : Standing → List LogOp → Type 0
 AreSettling s ops = ops ≡ settle_to (header_for s) s
 
+-- What the device is ready with behind a told history: the standing after it alone; or, where a round is in doubt, the
+-- standings before and after that round, which is told or isn't
+abbrev pub AreAround : Standing → History → List (Option Standing) → Type 0
+AreAround s told members =
+    (members ≡ Some (state_after s told) ∷ [])
+    ⊎ ((rounds : History) × (round : Round) × (members ≡ either_state (state_after s rounds) round)
+    × ((told ≡ rounds) ⊎ (told ≡ rounds ++ round ∷ [])))
+
 -- What the log tells of a run since this moment. Its operations begin with those that make or settle the region, and
 -- are covered from s on by the history that they tell: at each moment since, each image that a crash may leave
 -- represents the state after a prefix of the rounds so far that holds each sealed one; or, until the first sync, what
 -- it might represent at the beginning. That history explains the outcomes, the rounds of new requests are sealed, and
--- the device is ready to be opened
+-- the device is ready with what is around it
 pub record IsLogged (s : Standing) (IsFirst : List LogOp → Type 0) (cost : Cost) (asks : List Ask) (list : List Outcome) (before : Device)
     (tale : Tale) (after : Device) : Type 0 where
   pub history : List LoggedRound
   pub members : List (Option Standing)
   pub left : IsCoveredExit tale after s history members
   pub begun : IsBegun IsFirst left.ops
+  pub around : AreAround s (rounds_in history) members
   pub explained : Explains (rounds_in history) s asks list
   pub new_sealed : AreNewSealed (IsSealedAt history) (rounds_in history) asks list
   pub settled : IsCalm before after → IsSettled s cost history members tale after left
