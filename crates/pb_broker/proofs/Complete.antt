@@ -24,15 +24,16 @@ use Rattle.pb_script.proofs.Steps.{IsScript_front}
 use Rattle.pb_broker.specs.declared.source.TheConstants.{SOURCE_LIMIT}
 use Rattle.pb_broker.specs.declared.status.Status.{Status}
 use Rattle.pb_broker.specs.declared.stop.Stop.TheVariants.{Memory, Usage, ReadFault, Long, Many, Line as BadLine, DeviceFault, Taken, NoRegion, Damaged}
-use Rattle.pb_broker.specs.Call.{Call, Output}
-use Rattle.pb_broker.specs.Comes.{HasTooMany, HasBadLine, TellsNoRegion, TellsDamage, Comes, ComesFresh, ComesToRun, ComesToReport}
-use Rattle.pb_broker.specs.Ending.{Ending, Stopped, Served, Reported}
+use Rattle.pb_broker.specs.Call.{Call}
+use Rattle.pb_broker.specs.Comes.{HasTooMany, HasBadLine, TellsNoRegion, TellsDamage, Comes, ComesToReport}
+use Rattle.pb_broker.specs.Ending.{Ending, Stopped, Served, Reported, Replayed}
 use Rattle.pb_broker.specs.Laws.{TellsScript, TellsNone, TellsStanding, IsWellAsked, IsFaultless, Succeeds}
-use Rattle.pb_broker.specs.Reading.{Reading, IsWhole, IsLong}
 use Rattle.pb_broker.specs.Running.{AreCounted}
 use Rattle.pb_broker.specs.Texts.{run_status, ending_status}
 use Rattle.pb_broker.specs.Top.{IsAnswered}
 use Rattle.pb_broker.proofs.Endings.{content}
+use Rattle.pb_broker.specs.Source.{IsReadWhole, IsLong}
+use Rattle.pb_broker.specs.Stream.{Stream}
 
 -- what is said of a value that is told
 pub here : {T : Type 0} (P : T → Type 0) (told : Option T) (value : T) → told ≡ Some value → IfSome told P → P value
@@ -40,21 +41,21 @@ here P told value is holds = subst (λ o. IfSome o P) is holds
 
 -- The source
 
-not_long : {kind : Kind} {clients : ℕ} {read : Reading} → TellsScript kind clients read → IsLong read → ⊥
-not_long {kind} {clients} {read} script long = by_left read.left (subst (λ (o : Option (List ℕ)). Consumes o read.left long.front) script.told long.taken)
+not_long : {kind : Kind} {clients : ℕ} {read : Stream} → TellsScript kind clients read → IsLong read → ⊥
+not_long {kind} {clients} {read} script long = by_left read.after (subst (λ (o : Option (List ℕ)). Consumes o read.after long.front) script.told long.taken)
   where
     by_left : (left : Option (List ℕ)) → Consumes (Some script.bytes) left long.front → ⊥
     by_left None taken = taken
     by_left (Some rest) taken = omega (arith, ap length taken, length-append long.front rest, long.many, script.few)
 
-not_many : {kind : Kind} {clients : ℕ} {read : Reading} → TellsScript kind clients read → IsWhole HasTooMany read → ⊥
+not_many : {kind : Kind} {clients : ℕ} {read : Stream} → TellsScript kind clients read → IsReadWhole HasTooMany read → ⊥
 not_many {kind} {clients} {read} script whole =
-    let many = here (λ bytes. (length bytes ≤ SOURCE_LIMIT) × HasTooMany bytes) read.source script.bytes script.told (content whole) in
+    let many = here (λ bytes. (length bytes ≤ SOURCE_LIMIT) × HasTooMany bytes) read.before script.bytes script.told (content whole) in
     omega (arith, many.1, script.script.0)
 
-not_bad : {kind : Kind} {clients number : ℕ} {read : Reading} → TellsScript kind clients read → IsWhole (HasBadLine kind clients number) read → ⊥
+not_bad : {kind : Kind} {clients number : ℕ} {read : Stream} → TellsScript kind clients read → IsReadWhole (HasBadLine kind clients number) read → ⊥
 not_bad {kind} {clients} {number} {read} script whole =
-    let bad = here (λ bytes. (length bytes ≤ SOURCE_LIMIT) × HasBadLine kind clients number bytes) read.source script.bytes script.told (content whole) in
+    let bad = here (λ bytes. (length bytes ≤ SOURCE_LIMIT) × HasBadLine kind clients number bytes) read.before script.bytes script.told (content whole) in
     let all = lines script.bytes in
     let refused : IsRefused kind clients all number = bad.1.1 in
     refused.none _ (IsScript_front kind clients (take number all) (drop number all) script.asks (subst (λ (ls : List (List ℕ)). IsScript kind clients ls script.asks) (sym (take-append-drop number all)) script.script.1))
@@ -88,19 +89,26 @@ served_well before after list status counted calm is = by_doubt (list_any is_dou
 
 -- By command
 
-fresh_well : (head : Header) (call : Call) (out : Output) (ending : Ending) (status : Status) → TellsScript head.kind head.clients call.read → TellsNone call.before → IsFaultless call out → ComesFresh head call ending → status ≡ ending_status ending → Succeeds status
+abbrev pub ComesFresh : Header → Call → Ending → Type 0
+ComesFresh head call ending = Comes (Some (Fresh head.kind head.clients head.size)) call ending
+
+abbrev pub ComesToRun : Call → Ending → Type 0
+ComesToRun call ending = Comes (Some Run) call ending
+
+fresh_well : (head : Header) (call : Call) (out : Stream) (ending : Ending) (status : Status) → TellsScript head.kind head.clients call.read → TellsNone call.before → IsFaultless call out → ComesFresh head call ending → status ≡ ending_status ending → Succeeds status
 fresh_well head call out (Stopped Memory) status script none calm comes is = inr (inr is)
-fresh_well head call out (Stopped Usage) status script none calm comes is = absurd comes
-fresh_well head call out (Stopped ReadFault) status script none calm comes is = absurd (calm.reads comes.0.rose)
+fresh_well head call out (Stopped Usage) status script none calm comes is = absurd comes.0
+fresh_well head call out (Stopped ReadFault) status script none calm comes is = absurd (calm.reads comes.0.1)
 fresh_well head call out (Stopped Long) status script none calm comes is = absurd (not_long script comes.0)
 fresh_well head call out (Stopped Many) status script none calm comes is = absurd (not_many script comes.0)
 fresh_well head call out (Stopped (BadLine number)) status script none calm comes is = absurd (not_bad script comes.0)
-fresh_well head call out (Stopped DeviceFault) status script none calm comes is = absurd (calm.device comes.1.1.refusal.0.stops.rose)
+fresh_well head call out (Stopped DeviceFault) status script none calm comes is = absurd (calm.device comes.stopped.rose)
 fresh_well head call out (Stopped Taken) status script none calm comes is = absurd (none.none (here HasRegion call.before.now none.image none.told comes.1))
-fresh_well head call out (Stopped NoRegion) status script none calm comes is = absurd comes
-fresh_well head call out (Stopped (Damaged line)) status script none calm comes is = absurd comes
+fresh_well head call out (Stopped NoRegion) status script none calm comes is = absurd comes.0
+fresh_well head call out (Stopped (Damaged line)) status script none calm comes is = absurd comes.0
 fresh_well head call out (Served asks list) status script none calm comes is = served_well call.before.faults call.after.faults list status comes.run.counted calm.device is
 fresh_well head call out (Reported s) status script none calm comes is = absurd comes
+fresh_well head call out (Replayed answers s) status script none calm comes is = absurd comes
 
 pub same_standing : {s t : Standing} {device : Device} → TellsStanding s device → DeviceRepresents t device → s ≡ t
 same_standing {s} {t} {device} tells stands = represents_one tells.image s t tells.stands (here (λ image. Represents image t) device.now tells.image tells.told stands)
@@ -111,22 +119,23 @@ has_one {s} {device} tells none = here (λ image. ¬ HasRegion image) device.now
 pub is_sound : {s : Standing} {device : Device} (line : ℕ) → TellsStanding s device → TellsDamage line device → ⊥
 is_sound {s} {device} line tells damage = not_damaged tells.image s line tells.stands (here (λ image. IsDamagedAt image line) device.now tells.image tells.told damage)
 
-run_well : (s : Standing) (call : Call) (out : Output) (ending : Ending) (status : Status) → TellsStanding s call.before → TellsScript s.kind s.clients call.read → IsFaultless call out → ComesToRun call ending → status ≡ ending_status ending → Succeeds status
+run_well : (s : Standing) (call : Call) (out : Stream) (ending : Ending) (status : Status) → TellsStanding s call.before → TellsScript s.kind s.clients call.read → IsFaultless call out → ComesToRun call ending → status ≡ ending_status ending → Succeeds status
 run_well s call out (Stopped Memory) status tells script calm comes is = inr (inr is)
-run_well s call out (Stopped Usage) status tells script calm comes is = absurd comes
-run_well s call out (Stopped ReadFault) status tells script calm comes is = absurd (calm.reads comes.0.rose)
+run_well s call out (Stopped Usage) status tells script calm comes is = absurd comes.0
+run_well s call out (Stopped ReadFault) status tells script calm comes is = absurd (calm.reads comes.0.1)
 run_well s call out (Stopped Long) status tells script calm comes is = absurd (not_long script comes.0)
 run_well s call out (Stopped Many) status tells script calm comes is = absurd (not_many script comes.0)
 run_well s call out (Stopped (BadLine number)) status tells script calm comes is =
-    absurd (not_bad script (subst (λ (t : Standing). IsWhole (HasBadLine t.kind t.clients number) call.read) (sym (same_standing tells comes.1)) comes.2))
+    absurd (not_bad script (subst (λ (t : Standing). IsReadWhole (HasBadLine t.kind t.clients number) call.read) (sym (same_standing tells comes.1)) comes.2))
 run_well s call out (Stopped DeviceFault) status tells script calm comes is = absurd (calm.device comes.rose)
-run_well s call out (Stopped Taken) status tells script calm comes is = absurd comes
+run_well s call out (Stopped Taken) status tells script calm comes is = absurd comes.0
 run_well s call out (Stopped NoRegion) status tells script calm comes is = absurd (has_one tells comes.1)
 run_well s call out (Stopped (Damaged line)) status tells script calm comes is = absurd (is_sound line tells comes.1)
 run_well s call out (Served asks list) status tells script calm comes is = served_well call.before.faults call.after.faults list status comes.run.counted calm.device is
 run_well s call out (Reported t) status tells script calm comes is = absurd comes
+run_well s call out (Replayed answers t) status tells script calm comes is = absurd comes
 
-report_well : (s : Standing) (call : Call) (out : Output) (ending : Ending) (status : Status) → TellsStanding s call.before → IsFaultless call out → ComesToReport call.before call.after ending → status ≡ ending_status ending → Succeeds status
+report_well : (s : Standing) (call : Call) (out : Stream) (ending : Ending) (status : Status) → TellsStanding s call.before → IsFaultless call out → ComesToReport call.before call.after ending → status ≡ ending_status ending → Succeeds status
 report_well s call out (Stopped Memory) status tells calm comes is = inr (inr is)
 report_well s call out (Stopped Usage) status tells calm comes is = absurd comes
 report_well s call out (Stopped ReadFault) status tells calm comes is = absurd comes
@@ -139,8 +148,9 @@ report_well s call out (Stopped NoRegion) status tells calm comes is = absurd (h
 report_well s call out (Stopped (Damaged line)) status tells calm comes is = absurd (is_sound line tells comes.0)
 report_well s call out (Served asks list) status tells calm comes is = absurd comes
 report_well s call out (Reported t) status tells calm comes is = inl is
+report_well s call out (Replayed answers t) status tells calm comes is = absurd comes
 
-by_command : (command : Option Command) (call : Call) (out : Output) (ending : Ending) (status : Status) → Comes command call ending → IsWellAsked command call → IsFaultless call out → status ≡ ending_status ending → Succeeds status
+by_command : (command : Option Command) (call : Call) (out : Stream) (ending : Ending) (status : Status) → Comes command call ending → IsWellAsked command call → IsFaultless call out → status ≡ ending_status ending → Succeeds status
 by_command None call out ending status comes well calm is = absurd well
 by_command (Some (Fresh kind clients size)) call out ending status comes well calm is =
     fresh_well (record { kind = kind; clients = clients; size = size }) call out ending status well.0 well.1 calm comes is
@@ -149,7 +159,7 @@ by_command (Some Report) call out ending status comes well calm is = report_well
 by_command (Some (Replay kind clients size)) call out ending status comes well calm is = absurd well
 by_command (Some (Drill seed clients count)) call out ending status comes well calm is = absurd well
 
-pub done_as_asked : (words : List (List ℕ)) (call : Call) (out : Output) (status : Status) → IsAnswered words call out status → IsWellAsked (command_of words) call → IsFaultless call out → Succeeds status
+pub done_as_asked : (words : List (List ℕ)) (call : Call) (out : Stream) (status : Status) → IsAnswered words call out status → IsWellAsked (command_of words) call → IsFaultless call out → Succeeds status
 done_as_asked words call out status answered well calm = elim answered.said [
   | inl said ↦ by_command (command_of words) call out answered.ending status answered.comes well calm said.is
   | inr some ↦ absurd (calm.writes some.rose)

@@ -1,14 +1,13 @@
 -- What the log tells of requests that were run over an engine.
-use Rattle.std.proofs.Common.{◌≡◌, ◌⊎◌, ℕ, ◌+◌, ◌<◌, Bool, true, false, List, [], ◌∷◌, ◌++◌, length, get_or, Option, Some, None, refl, sym, ap, subst, ◌∙◌, arith, inl, inr, zero, suc, IfSome}
-use Rattle.std.specs.List.{Contains, zip}
+use Rattle.std.proofs.Common.{◌≡◌, ◌⊎◌, ℕ, ◌+◌, ◌<◌, Bool, true, false, cond, List, [], ◌∷◌, ◌++◌, length, get_or, Option, Some, None, refl, sym, ap, subst, ◌∙◌, arith, inl, inr, zero, suc, IfSome}
+use Rattle.std.specs.List.{Contains, count_by, filter, zip}
 use Rattle.std.proofs.lemmas.List.{append_cancel_left, get_or_append_left, length-append, length-map, append-nil, take_all}
 use Rattle.std.proofs.lemmas.Option.{same_Some}
 use Rattle.pb_pmem.specs.declared.log.LogOp.{LogOp}
-use Rattle.pb_pmem.specs.Count.{Rose}
 use Rattle.pb_pmem.specs.Device.{Tale}
 use Rattle.pb_pmem.specs.Operations.{with_ops}
 use Rattle.pb_object.specs.declared.request.Ask.{Ask}
-use Rattle.pb_object.specs.History.{Round, History, IsLegalRound, state_after}
+use Rattle.pb_object.specs.History.{Entry, Round, History, IsLegalRound, state_after}
 use Rattle.pb_object.specs.Standing.{Standing}
 use Rattle.pb_layout.specs.Doubt.{either_state, IsRoundInDoubt, HasRoundLanded}
 use Rattle.pb_layout.specs.Exits.{HasOneUnsealedAtMost}
@@ -19,9 +18,10 @@ use Rattle.pb_engine.specs.View.{EngineView, FailedRound, was_called}
 use Rattle.pb_layout_laws.proofs.ToldCalls.{from_told}
 use Rattle.pb_core.proofs.Histories.{legal-push}
 use Rattle.pb_report.specs.declared.outcome.Outcome.{Outcome}
-use Rattle.pb_report.specs.Outcomes.{Outcomes, AreNewSealed, entry_of}
-use Rattle.pb_run.specs.Run.{HasRun, AreNewRecorded, rounds_in_doubt}
-use Rattle.pb_broker.specs.Running.{Explains, IsCalm, IsSealedAt, Cost, IsSettled, IsBegun, IsLogged}
+use Rattle.pb_report.specs.Outcomes.{Outcomes, HasEntry, entry_of}
+use Rattle.pb_run.specs.Run.{HasRun, is_doubt, AreNewRecorded, rounds_in_doubt}
+use Rattle.pb_broker.proofs.Counts.{fences_counted, syncs_counted}
+use Rattle.pb_broker.specs.Running.{Explains, NoneInDoubt, IsCalmRun, IsLogged}
 
 -- Rounds by their places
 
@@ -30,6 +30,14 @@ no_round = record { side = 0; entries = [] }
 
 abbrev unsealed : LoggedRound
 unsealed = record { round = no_round; backed = false; sealed = false }
+
+-- the round at a place of a told history is sealed
+abbrev IsSealedAt : List LoggedRound → ℕ → Type 0
+IsSealedAt history place = (get_or history place unsealed).sealed ≡ true
+
+-- the sealed ones
+abbrev pub sealed_rounds : List LoggedRound → History
+sealed_rounds history = rounds_in (filter (λ round. round.sealed) history)
 
 sealed_by_place : (history : List LoggedRound) (place : ℕ) → AreSealed history → place < length history → IsSealedAt history place
 sealed_by_place [] place sealed inside = absurd (omega (arith, inside))
@@ -40,27 +48,39 @@ sealed_in_front : (front rest : List LoggedRound) (place : ℕ) → AreSealed fr
 sealed_in_front front rest place sealed inside =
     ap (λ (logged : LoggedRound). logged.sealed) (get_or_append_left front rest unsealed place inside) ∙ sealed_by_place front place sealed inside
 
+as_many : (history : List LoggedRound) → length history ≡ length (rounds_in history)
+as_many history = sym (length-map history round_of)
+
+-- an entry of a sealed round is one of the sealed ones'
+entry_sealed : (history : List LoggedRound) (place : ℕ) (d : Round) (entry : Entry) → place < length history → IsSealedAt history place → Contains (get_or (rounds_in history) place d).entries entry → HasEntry (sealed_rounds history) entry
+entry_sealed [] place d entry inside sealed member = absurd (omega (arith, inside))
+entry_sealed (logged ∷ history) zero d entry inside sealed member =
+    let others = filter (λ round. round.sealed) history in
+    subst (λ (b : Bool). HasEntry (rounds_in (cond b (logged ∷ others) others)) entry) (sym sealed)
+    (record { round = logged.round; told = (zero, omega arith, refl); member = member })
+entry_sealed (logged ∷ history) (suc place) d entry inside sealed member =
+    let others = filter (λ round. round.sealed) history in
+    let later : HasEntry (rounds_in others) entry = entry_sealed history place d entry (omega (arith, inside)) sealed member in
+    elim logged.sealed as (λ b. HasEntry (rounds_in (cond b (logged ∷ others) others)) entry) [
+      | true ↦ record { round = later.round; told = (suc later.told.0, omega (arith, later.told.1), later.told.2); member = later.member }
+      | false ↦ later
+    ]
+
 -- the new requests' rounds are among the first ones, which are sealed
-first_sealed : (rounds : History) (history : List LoggedRound) (more : History) (asks : List Ask) (list : List Outcome) → rounds_in history ≡ rounds ++ more → ((place : ℕ) → place < length rounds → IsSealedAt history place) → AreNewRecorded rounds (zip asks list) → AreNewSealed (IsSealedAt history) (rounds_in history) asks list
+first_sealed : (rounds : History) (history : List LoggedRound) (more : History) (asks : List Ask) (list : List Outcome) → rounds_in history ≡ rounds ++ more → ((place : ℕ) → place < length rounds → IsSealedAt history place) → AreNewRecorded rounds (zip asks list) → AreNewRecorded (sealed_rounds history) (zip asks list)
 first_sealed rounds history more asks list are sealed recorded ask reply line =
     let is = recorded ask reply line in
     let place = is.told.0 in
     let inside = is.told.1 in
     let here : get_or (rounds_in history) place no_round ≡ is.round =
-    ap (λ (h : History). get_or h place no_round) are ∙ (get_or_append_left rounds more no_round place inside ∙ (any_default rounds place no_round is.round inside ∙ is.told.2)) in (
-      place,
-      subst (λ (h : History). place < length h) (sym are) (omega (arith, inside, length-append rounds more)),
-      sealed place inside,
-      subst (λ (r : Round). Contains r.entries (entry_of ask reply)) (sym here) is.member,
-    )
+    ap (λ (h : History). get_or h place no_round) are ∙ (get_or_append_left rounds more no_round place inside ∙ (any_default rounds place no_round is.round inside ∙ is.told.2)) in
+    entry_sealed history place no_round (entry_of ask reply) (omega (arith, inside, as_many history, ap length are, length-append rounds more)) (sealed place inside)
+    (subst (λ (r : Round). Contains r.entries (entry_of ask reply)) (sym here) is.member)
   where
     any_default : (h : History) (place : ℕ) (a b : Round) → place < length h → get_or h place a ≡ get_or h place b
     any_default [] place a b inside = absurd (omega (arith, inside))
     any_default (one ∷ h) zero a b inside = refl
     any_default (one ∷ h) (suc place) a b inside = any_default h place a b (omega (arith, inside))
-
-as_many : (history : List LoggedRound) → length history ≡ length (rounds_in history)
-as_many history = sym (length-map history round_of)
 
 -- all but the last round of a log are sealed
 all_but_last : (history : List LoggedRound) (count place : ℕ) → HasOneUnsealedAtMost history → length history ≡ count + 1 → place < count → IsSealedAt history place
@@ -76,15 +96,15 @@ same_ops tale told a b first second =
 
 -- An engine from a first view on
 
--- requests were run from a start on that has come from the first view with no round; no call of the device failed between
+-- requests were run from a start on that has come from the first view with no round; no call failed between
 pub record IsRunSince (first start : EngineView) (asks : List Ask) (now : EngineView) (list : List Outcome) : Type 0 where
   pub run : HasRun start asks now list
-  pub come : HasCome first now run.rounds
+  pub come : HasCome first now run.rounds (count_by is_doubt list)
   pub same : start.standing ≡ first.standing
   pub sure : start.sure ≡ true
+  pub first_sure : first.sure ≡ true
   pub decided : start.doubt ≡ None
   pub first_decided : first.doubt ≡ None
-  pub faults : start.device.faults ≡ first.device.faults
 
 -- the rounds explain the outcomes
 pub rounds_explain : {first start now : EngineView} {asks : List Ask} {list : List Outcome} (since : IsRunSince first start asks now list) → Explains since.run.rounds first.standing asks list
@@ -102,67 +122,57 @@ with_doubt_explain {first} {start} {now} {asks} {list} since failed is legal = r
   few = omega (arith, since.run.few, ap rounds_in_doubt is, length-append since.run.rounds (failed.round ∷ []));
 }
 
--- where no call failed the engine is sure
-calm_is_sure : {first start now : EngineView} {asks : List Ask} {list : List Outcome} (since : IsRunSince first start asks now list) → IsCalm first.device now.device → (now.sure ≡ true) × (now.doubt ≡ None)
-calm_is_sure {first} {start} {now} since calm =
-    let quiet = since.run.come.quiet (subst (λ (count : ℕ). ¬ Rose count now.device.faults) (sym since.faults) calm) in
+-- where no line is in doubt the engine is sure
+calm_is_sure : {first start now : EngineView} {asks : List Ask} {list : List Outcome} (since : IsRunSince first start asks now list) → NoneInDoubt list → (now.sure ≡ true) × (now.doubt ≡ None)
+calm_is_sure since calm =
+    let quiet = since.run.come.quiet calm in
     (quiet.sure since.sure, quiet.doubt since.decided)
 
--- nothing is done before the rounds
-abbrev pub NoneFirst : List LogOp → Type 0
-NoneFirst ops = ops ≡ []
-
-none_first : (ops : List LogOp) → IsBegun NoneFirst ops
-none_first ops = record { first = []; more = ops; whole = refl; parts = refl }
-
--- what the run costs beside its rounds
-abbrev pub settlings_cost : Bool → Cost
-settlings_cost sure = record { fences = 0; syncs = settlings sure true }
-
-settled_with : {first start now : EngineView} {asks : List Ask} {list : List Outcome} (since : IsRunSince first start asks now list) (tale : Tale) (history : List LoggedRound) (left : IsCoveredExit tale now.device first.standing history (Some (state_after first.standing since.run.rounds) ∷ [])) → first.device.told ≡ Some tale → AreSealed history → rounds_in history ≡ since.run.rounds → IsCalm first.device now.device → IsSettled first.standing (settlings_cost first.sure) history (Some (state_after first.standing since.run.rounds) ∷ []) tale now.device left
+settled_with : {first start now : EngineView} {asks : List Ask} {list : List Outcome} (since : IsRunSince first start asks now list) (tale : Tale) (history : List LoggedRound) (left : IsCoveredExit tale now.device first.standing history (Some (state_after first.standing since.run.rounds) ∷ [])) → first.device.told ≡ Some tale → AreSealed history → rounds_in history ≡ since.run.rounds → NoneInDoubt list → IsCalmRun first.standing history (Some (state_after first.standing since.run.rounds) ∷ []) left.ops
 settled_with {first} {start} {now} since tale history left told sealed are calm =
     let cost = since.come.cost tale told since.first_decided calm in
     let same = same_ops tale now.device.told cost.ops left.ops cost.told left.told in
     let many = as_many history ∙ ap length are in
-    let now_sure = (calm_is_sure since calm).0 in
     record {
       sealed = sealed;
       alone = ap (λ (h : History). Some (state_after first.standing h) ∷ []) (sym are);
-      fences = omega (arith, ap fence_count same, cost.fences, many);
-      syncs = omega (arith, ap sync_count same, cost.syncs, ap (settlings first.sure) now_sure, many);
+      fences = omega (arith, ap fence_count same, cost.fences, many, fences_counted left.ops);
+      syncs = omega (arith, syncs_counted left.ops, ap sync_count same, cost.syncs, ap (λ (b : Bool). settlings b now.sure) since.first_sure, many);
     }
 
 -- the rounds are told and sealed
-logged_sealed : {first start now : EngineView} {asks : List Ask} {list : List Outcome} (since : IsRunSince first start asks now list) (tale : Tale) → first.device.told ≡ Some tale → IsSealedAfter tale now.device first.standing since.run.rounds → IsLogged first.standing NoneFirst (settlings_cost first.sure) asks list first.device tale now.device
+logged_sealed : {first start now : EngineView} {asks : List Ask} {list : List Outcome} (since : IsRunSince first start asks now list) (tale : Tale) → first.device.told ≡ Some tale → IsSealedAfter tale now.device first.standing since.run.rounds → IsLogged first.standing [] asks list tale now.device
 logged_sealed {first} {start} {now} {asks} {list} since tale told after = record {
   history = after.history;
   members = Some (state_after first.standing since.run.rounds) ∷ [];
   left = after.left;
-  begun = none_first after.left.ops;
+  more = after.left.ops;
+  parts = refl;
   around = inl (ap (λ (h : History). Some (state_after first.standing h) ∷ []) (sym after.rounds_are));
   explained = subst (λ (h : History). Explains h first.standing asks list) (sym after.rounds_are) (rounds_explain since);
   new_sealed = first_sealed since.run.rounds after.history [] asks list (after.rounds_are ∙ sym (append-nil since.run.rounds)) (λ place inside. sealed_by_place after.history place after.sealed (omega (arith, inside, as_many after.history, ap length after.rounds_are))) since.run.recorded;
-  settled = settled_with since tale after.history after.left told after.sealed after.rounds_are;
+  calm = settled_with since tale after.history after.left told after.sealed after.rounds_are;
 }
 
 -- nothing was settled yet, and no request was served
-logged_found : {first start now : EngineView} {asks : List Ask} {list : List Outcome} (since : IsRunSince first start asks now list) (tale : Tale) → now.sure ≡ false → since.run.rounds ≡ [] → IsStillFound tale (Some first.standing ∷ []) now.device first.standing → IsLogged first.standing NoneFirst (settlings_cost first.sure) asks list first.device tale now.device
+logged_found : {first start now : EngineView} {asks : List Ask} {list : List Outcome} (since : IsRunSince first start asks now list) (tale : Tale) → now.sure ≡ false → since.run.rounds ≡ [] → IsStillFound tale (Some first.standing ∷ []) now.device first.standing → IsLogged first.standing [] asks list tale now.device
 logged_found {first} {start} {now} {asks} {list} since tale unsure none still = record {
   history = [];
   members = Some first.standing ∷ [];
   left = still.left;
-  begun = none_first still.left.ops;
+  more = still.left.ops;
+  parts = refl;
   around = inl refl;
   explained = subst (λ (h : History). Explains h first.standing asks list) none (rounds_explain since);
   new_sealed = first_sealed [] [] [] asks list refl (λ place inside. absurd (omega (arith, inside))) (subst (λ (h : History). AreNewRecorded h (zip asks list)) none since.run.recorded);
-  settled = λ calm. absurd (cc ((calm_is_sure since calm).0, unsure));
+  calm = λ calm. absurd (cc ((calm_is_sure since calm).0, unsure));
 }
 
 -- a round is in doubt after them
-logged_in_doubt : {first start now : EngineView} {asks : List Ask} {list : List Outcome} (since : IsRunSince first start asks now list) (tale : Tale) (failed : FailedRound) → now.doubt ≡ Some failed → IsInDoubtAfter tale now.device first.standing since.run.rounds failed.round → IsLogged first.standing NoneFirst (settlings_cost first.sure) asks list first.device tale now.device
+logged_in_doubt : {first start now : EngineView} {asks : List Ask} {list : List Outcome} (since : IsRunSince first start asks now list) (tale : Tale) (failed : FailedRound) → now.doubt ≡ Some failed → IsInDoubtAfter tale now.device first.standing since.run.rounds failed.round → IsLogged first.standing [] asks list tale now.device
 logged_in_doubt {first} {start} {now} {asks} {list} since tale failed is after = by_state after.state
   where
-    never : IsCalm first.device now.device → ⊥
+    never : NoneInDoubt list → ⊥
     never calm = cc ((calm_is_sure since calm).1, is)
 
     told_end : IfSome now.device.told (λ end. HasRoundLanded end.base end.log (state_after first.standing since.run.rounds) failed.round) → HasRoundLanded tale.base (tale.log ++ after.left.ops) (state_after first.standing since.run.rounds) failed.round
@@ -176,16 +186,17 @@ logged_in_doubt {first} {start} {now} {asks} {list} since tale failed is after =
 
     by_state : (AreSealed after.history × (rounds_in after.history ≡ since.run.rounds) × IfSome now.device.told (λ end. IsRoundInDoubt end.base end.log (state_after first.standing since.run.rounds) failed.round))
         ⊎ ((rounds_in after.history ≡ since.run.rounds ++ failed.round ∷ []) × IfSome now.device.told (λ end. HasRoundLanded end.base end.log (state_after first.standing since.run.rounds) failed.round))
-        → IsLogged first.standing NoneFirst (settlings_cost first.sure) asks list first.device tale now.device
+        → IsLogged first.standing [] asks list tale now.device
     by_state (inl (sealed, are, still)) = record {
       history = after.history;
       members = either_state (state_after first.standing since.run.rounds) failed.round;
       left = after.left;
-      begun = none_first after.left.ops;
+      more = after.left.ops;
+      parts = refl;
       around = inr (since.run.rounds, failed.round, refl, inl are);
       explained = subst (λ (h : History). Explains h first.standing asks list) (sym are) (rounds_explain since);
       new_sealed = first_sealed since.run.rounds after.history [] asks list (are ∙ sym (append-nil since.run.rounds)) (λ place inside. sealed_by_place after.history place sealed (omega (arith, inside, as_many after.history, ap length are))) since.run.recorded;
-      settled = λ calm. absurd (never calm);
+      calm = λ calm. absurd (never calm);
     }
     by_state (inr (are, landed)) =
         let many : length after.history ≡ length since.run.rounds + 1 = as_many after.history ∙ (ap length are ∙ length-append since.run.rounds (failed.round ∷ [])) in
@@ -193,28 +204,29 @@ logged_in_doubt {first} {start} {now} {asks} {list} since tale failed is after =
           history = after.history;
           members = either_state (state_after first.standing since.run.rounds) failed.round;
           left = after.left;
-          begun = none_first after.left.ops;
+          more = after.left.ops;
+          parts = refl;
           around = inr (since.run.rounds, failed.round, refl, inr are);
           explained = subst (λ (h : History). Explains h first.standing asks list) (sym are) (with_doubt_explain since failed is (told_end landed).legal);
           new_sealed = first_sealed since.run.rounds after.history (failed.round ∷ []) asks list are (λ place inside. all_but_last after.history (length since.run.rounds) place one many inside) since.run.recorded;
-          settled = λ calm. absurd (never calm);
+          calm = λ calm. absurd (never calm);
         }
 
 -- whatever became of it
-pub logged_since : {first start now : EngineView} {asks : List Ask} {list : List Outcome} (since : IsRunSince first start asks now list) (tale : Tale) → BeginsAt tale (Some first.standing ∷ []) first → IsLogged first.standing NoneFirst (settlings_cost first.sure) asks list first.device tale now.device
+pub logged_since : {first start now : EngineView} {asks : List Ask} {list : List Outcome} (since : IsRunSince first start asks now list) (tale : Tale) → BeginsAt tale (Some first.standing ∷ []) first → IsLogged first.standing [] asks list tale now.device
 logged_since {first} {start} {now} {asks} {list} since tale begins = by_doubt now.doubt refl
   where
     covered : IsCovered tale (Some first.standing ∷ []) first.standing now since.run.rounds
     covered = since.come.covered tale (Some first.standing ∷ []) begins
 
-    by_decided : IsDecidedAfter tale (Some first.standing ∷ []) now first.standing since.run.rounds → IsLogged first.standing NoneFirst (settlings_cost first.sure) asks list first.device tale now.device
+    by_decided : IsDecidedAfter tale (Some first.standing ∷ []) now first.standing since.run.rounds → IsLogged first.standing [] asks list tale now.device
     by_decided (inl after) = logged_sealed since tale begins.told after
     by_decided (inr (unsure, none, still)) = logged_found since tale unsure none still
 
-    by_called : (failed : FailedRound) (called : Bool) → now.doubt ≡ Some failed → failed.called ≡ called → IsLogged first.standing NoneFirst (settlings_cost first.sure) asks list first.device tale now.device
+    by_called : (failed : FailedRound) (called : Bool) → now.doubt ≡ Some failed → failed.called ≡ called → IsLogged first.standing [] asks list tale now.device
     by_called failed true is called = logged_in_doubt since tale failed is (covered.in_doubt failed is called)
     by_called failed false is uncalled = by_decided (covered.decided (ap was_called is ∙ uncalled))
 
-    by_doubt : (doubt : Option FailedRound) → now.doubt ≡ doubt → IsLogged first.standing NoneFirst (settlings_cost first.sure) asks list first.device tale now.device
+    by_doubt : (doubt : Option FailedRound) → now.doubt ≡ doubt → IsLogged first.standing [] asks list tale now.device
     by_doubt None is = by_decided (covered.decided (ap was_called is))
     by_doubt (Some failed) is = by_called failed failed.called is refl

@@ -9,7 +9,8 @@ use Rattle.pb_pair.specs.declared.why.Why.TheVariants.{Memory, Device as DeviceW
 use Rattle.pb_pair.specs.Open.{IsOpenRefusal, IsRefusedAt}
 use Rattle.pb_engine.specs.Opening.{IsAdoptRefusal}
 use Rattle.pb_broker.specs.declared.stop.Stop.{Stop}
-use Rattle.pb_broker.specs.Serving.{IsNotOpened, StopsOn}
+use Rattle.pb_broker.specs.Comes.{IsNotOpened}
+use Rattle.pb_broker.specs.Serving.{StopsOn}
 use Rattle.pb_broker.specs.Stops.{stop_of_device}
 
 -- a failed read leaves the log

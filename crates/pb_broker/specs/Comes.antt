@@ -1,30 +1,32 @@
 -- When a call comes to what: for each command, the cause of each ending, and what it leaves of source and device.
-use Rattle.std.specs.Prelude.{◌≡◌, ℕ, ◌<◌, List, Option, Some, None, IfSome, length, ◌⊎◌}
-use Rattle.pb_pmem.specs.declared.device.DeviceFault.{DeviceFault}
+use Rattle.std.specs.Prelude.{◌≡◌, ℕ, ◌<◌, List, [], ◌∷◌, Option, Some, None, IfSome, length, ◌⊎◌}
 use Rattle.pb_pmem.specs.Count.{Rose}
-use Rattle.pb_pmem.specs.Device.{Device}
+use Rattle.pb_pmem.specs.Device.{Device, Tale}
+use Rattle.pb_pmem.specs.Operations.{Stops, IsFailedPrefix}
 use Rattle.pb_object.specs.declared.kind.Kind.{Kind}
 use Rattle.pb_object.specs.declared.request.Ask.{Ask}
-use Rattle.pb_object.specs.History.{state_after}
 use Rattle.pb_object.specs.Standing.{Standing}
 use Rattle.pb_layout.specs.declared.header.Header.{Header}
 use Rattle.pb_layout.specs.Damage.{HasRegion, IsDamagedAt}
 use Rattle.pb_layout.specs.Exits.{empty_for}
-use Rattle.pb_pair.specs.declared.why.Why.TheVariants.{Device as DeviceWhy}
-use Rattle.pb_engine.specs.Opening.{IsFreshRefusal}
+use Rattle.pb_layout.specs.RegionOps.{settle_to}
+use Rattle.pb_layout.specs.Represents.{header_for}
+use Rattle.pb_layout.specs.ToldExits.{IsCoveredExit, HasPublished, IsReadyWith}
 use Rattle.pb_engine.specs.View.{DeviceRepresents}
+use Rattle.pb_replay.specs.Replay.{IsReplayed, HasTooManyEvents, HasBadEvent}
 use Rattle.pb_report.specs.declared.outcome.Outcome.{Outcome}
 use Rattle.pb_script.specs.declared.command.Command.{Command}
-use Rattle.pb_script.specs.declared.command.Command.TheVariants.{Fresh, Run, Report, Replay, Drill}
+use Rattle.pb_script.specs.declared.command.Command.TheVariants.{Fresh, Run, Report, Replay}
 use Rattle.pb_script.specs.declared.script.TheConstants.{MOST_REQUESTS}
 use Rattle.pb_script.specs.Script.{IsShort, IsScript, IsRefused, request_lines}
 use Rattle.pb_script.specs.Words.{lines}
 use Rattle.pb_broker.specs.declared.stop.Stop.{Stop}
 use Rattle.pb_broker.specs.declared.stop.Stop.TheVariants.{Memory, Usage, ReadFault, Long, Many, Line as BadLine, DeviceFault as FailedDevice, Taken, NoRegion, Damaged}
 use Rattle.pb_broker.specs.Call.{Call, IsSameDevice}
-use Rattle.pb_broker.specs.Ending.{Ending, Stopped, Served, Reported}
-use Rattle.pb_broker.specs.Reading.{Reading, IsUnread, IsStopped, HasFailed, IsWhole, IsLong}
-use Rattle.pb_broker.specs.Running.{AreMaking, AreSettling, making_cost, settling_cost, IsCalm, IsRun, HasNone, HasSome, IsCutOff}
+use Rattle.pb_broker.specs.Ending.{Ending, Stopped, Served, Reported, Replayed}
+use Rattle.pb_broker.specs.Running.{making_ops, IsRun, HasSome}
+use Rattle.pb_broker.specs.Source.{IsUnread, HasReadSome, IsReadWhole, IsLong}
+use Rattle.pb_broker.specs.Stream.{Stream, IsSound}
 
 -- Of the source's bytes
 
@@ -44,13 +46,10 @@ abbrev pub HasBadLine : Kind → ℕ → ℕ → List ℕ → Type 0
 HasBadLine kind clients number bytes = IsShort (lines bytes) × IsRefused kind clients (lines bytes) number
 
 -- the source is a script
-abbrev pub IsScripted : Kind → ℕ → Reading → Type 0
-IsScripted kind clients read = (asks : List Ask) × IsWhole (IsScriptOf kind clients asks) read
+abbrev pub IsScripted : Kind → ℕ → Stream → Type 0
+IsScripted kind clients read = (asks : List Ask) × IsReadWhole (IsScriptOf kind clients asks) read
 
 -- Of the device's lines
-
-abbrev pub TellsRegion : Device → Type 0
-TellsRegion device = IfSome device.now HasRegion
 
 abbrev pub TellsNoRegion : Device → Type 0
 TellsNoRegion device = IfSome device.now (λ image. ¬ HasRegion image)
@@ -58,104 +57,116 @@ TellsNoRegion device = IfSome device.now (λ image. ¬ HasRegion image)
 abbrev pub TellsDamage : ℕ → Device → Type 0
 TellsDamage line device = IfSome device.now (λ image. IsDamagedAt image line)
 
--- The words are no command that there is
+-- Why a call stops
 
-abbrev pub ComesToUsage : Call → Ending → Type 0
-ComesToUsage call (Stopped Usage) = IsUnread call.read × IsSameDevice call
-ComesToUsage call _ = ⊥
+-- why reading the source stops, or counting its request lines
+abbrev pub StopsReadingFew : Stream → Stop → Type 0
+StopsReadingFew read Memory = HasReadSome read × IsSound read
+StopsReadingFew read ReadFault = HasReadSome read × Rose read.faults_before read.faults
+StopsReadingFew read Long = IsLong read
+StopsReadingFew read Many = IsReadWhole HasTooMany read
+StopsReadingFew read _ = ⊥
+
+-- why a region isn't opened
+abbrev pub IsNotOpened : Device → Device → Stop → Type 0
+IsNotOpened before after Memory = after ≡ before
+IsNotOpened before after FailedDevice = Rose before.faults after.faults × (after.told ≡ before.told)
+IsNotOpened before after NoRegion = TellsNoRegion before × (after ≡ before)
+IsNotOpened before after (Damaged line) = TellsDamage line before × (after ≡ before)
+IsNotOpened before after _ = ⊥
 
 -- `fresh KIND CLIENTS SIZE`: a region is made, and the source's script is run on it
 
+-- the lines were judged, and making the region was cut off at a failing call of the device: it still has none, alone, or holds
+-- the empty one, which a crash may take back
+pub record MakingIsCutOff (head : Header) (call : Call) : Type 0 where
+  pub script : IsScripted head.kind head.clients call.read
+  pub stopped : Stops (IsFailedPrefix (making_ops head)) call.before call.after
+  pub none : (call.after.told ≡ call.before.told) ⊎ TellsNoRegion call.before
+  pub left : (tale : Tale) → call.before.told ≡ Some tale → IsReadyWith (None ∷ []) tale
+      → IsCoveredExit tale call.after (empty_for head) [] (None ∷ []) ⊎ HasPublished tale call.after head
+
 -- why it stops
 abbrev pub StopsFresh : Header → Call → Stop → Type 0
-StopsFresh head call Memory = IsStopped call.read × IsSameDevice call
-StopsFresh head call Usage = ⊥
-StopsFresh head call ReadFault = HasFailed call.read × IsSameDevice call
-StopsFresh head call Long = IsLong call.read × IsSameDevice call
-StopsFresh head call Many = IsWhole HasTooMany call.read × IsSameDevice call
-StopsFresh head call (BadLine number) = IsWhole (HasBadLine head.kind head.clients number) call.read × IsSameDevice call
-StopsFresh head call FailedDevice = IsScripted head.kind head.clients call.read
-    × ((fault : DeviceFault) × IsFreshRefusal head call.before call.after (DeviceWhy fault))
-StopsFresh head call Taken = IsScripted head.kind head.clients call.read × TellsRegion call.before × IsSameDevice call
-StopsFresh head call NoRegion = ⊥
-StopsFresh head call (Damaged line) = ⊥
+StopsFresh head call (BadLine number) = IsReadWhole (HasBadLine head.kind head.clients number) call.read × IsSameDevice call
+StopsFresh head call FailedDevice = MakingIsCutOff head call
+StopsFresh head call Taken =
+    IsScripted head.kind head.clients call.read × IfSome call.before.now HasRegion × IsSameDevice call
+StopsFresh head call stop = StopsReadingFew call.read stop × IsSameDevice call
 
--- the device had no region, and the script of the source was run from the empty standing on; unless a call of the device
--- failed, it represents the standing after the run
+-- the device had no region, and the script of the source was run from the empty standing on
 pub record ServesFresh (head : Header) (call : Call) (asks : List Ask) (list : List Outcome) : Type 0 where
-  pub script : IsWhole (IsScriptOf head.kind head.clients asks) call.read
+  pub script : IsReadWhole (IsScriptOf head.kind head.clients asks) call.read
   pub none : TellsNoRegion call.before
-  pub run : IsRun (empty_for head) (AreMaking head) making_cost HasNone asks list call.before call.after
-  pub holds : IsCalm call.before call.after → DeviceRepresents (state_after (empty_for head) run.history) call.after
-
-abbrev pub ComesFresh : Header → Call → Ending → Type 0
-ComesFresh head call (Stopped stop) = StopsFresh head call stop
-ComesFresh head call (Served asks list) = ServesFresh head call asks list
-ComesFresh head call (Reported s) = ⊥
+  pub run : IsRun (empty_for head) (making_ops head) (IsReadyWith (None ∷ [])) asks list call.before call.after
 
 -- `run`: the region is opened and settled, and the source's script is run on it. Lines are judged behind the opening
 
--- the lines were judged, and settling was cut off at a failing call of the device
-pub record FailsToSettle (call : Call) : Type 0 where
+-- the lines were judged, and settling the standing that the device represents was cut off at a failing call of the device:
+-- a crash may leave what it might leave before
+pub record SettlingIsCutOff (call : Call) : Type 0 where
   pub standing : Standing
+  pub stands : DeviceRepresents standing call.before
   pub script : IsScripted standing.kind standing.clients call.read
-  pub cut : IsCutOff standing call.before call.after
+  pub stopped : Stops (IsFailedPrefix (settle_to (header_for standing) standing)) call.before call.after
+  pub left : (tale : Tale) (members : List (Option Standing)) → call.before.told ≡ Some tale → IsReadyWith members tale
+      → IsCoveredExit tale call.after standing [] members
 
 -- a call of the device failed, in opening or in settling
 pub record FailsRun (call : Call) : Type 0 where
-  pub few : IsWhole HasFew call.read
+  pub few : IsReadWhole HasFew call.read
   pub rose : Rose call.before.faults call.after.faults
-  pub left : (call.after.told ≡ call.before.told) ⊎ FailsToSettle call
+  pub left : (call.after.told ≡ call.before.told) ⊎ SettlingIsCutOff call
 
 abbrev pub StopsRun : Call → Stop → Type 0
-StopsRun call Memory = IsStopped call.read × IsSameDevice call
-StopsRun call Usage = ⊥
-StopsRun call ReadFault = HasFailed call.read × IsSameDevice call
-StopsRun call Long = IsLong call.read × IsSameDevice call
-StopsRun call Many = IsWhole HasTooMany call.read × IsSameDevice call
-StopsRun call (BadLine number) =
-    (s : Standing) × DeviceRepresents s call.before × IsWhole (HasBadLine s.kind s.clients number) call.read × IsSameDevice call
+StopsRun call (BadLine number) = (s : Standing) × DeviceRepresents s call.before
+    × IsReadWhole (HasBadLine s.kind s.clients number) call.read × IsSameDevice call
 StopsRun call FailedDevice = FailsRun call
-StopsRun call Taken = ⊥
-StopsRun call NoRegion = IsWhole HasFew call.read × TellsNoRegion call.before × IsSameDevice call
-StopsRun call (Damaged line) = IsWhole HasFew call.read × TellsDamage line call.before × IsSameDevice call
+StopsRun call NoRegion = IsReadWhole HasFew call.read × TellsNoRegion call.before × IsSameDevice call
+StopsRun call (Damaged line) = IsReadWhole HasFew call.read × TellsDamage line call.before × IsSameDevice call
+StopsRun call stop = StopsReadingFew call.read stop × IsSameDevice call
 
 -- the script of the source was run from the standing on that the device represented
 pub record ServesRun (call : Call) (asks : List Ask) (list : List Outcome) : Type 0 where
   pub standing : Standing
   pub stands : DeviceRepresents standing call.before
-  pub script : IsWhole (IsScriptOf standing.kind standing.clients asks) call.read
-  pub run : IsRun standing (AreSettling standing) settling_cost HasSome asks list call.before call.after
-
-abbrev pub ComesToRun : Call → Ending → Type 0
-ComesToRun call (Stopped stop) = StopsRun call stop
-ComesToRun call (Served asks list) = ServesRun call asks list
-ComesToRun call (Reported s) = ⊥
+  pub script : IsReadWhole (IsScriptOf standing.kind standing.clients asks) call.read
+  pub run : IsRun standing (settle_to (header_for standing) standing) HasSome asks list call.before call.after
 
 -- `report`: the standing that the device represents is reported. The source isn't read, and the device's log stays
 
-abbrev pub StopsReport : Device → Device → Stop → Type 0
-StopsReport before after Memory = after ≡ before
-StopsReport before after Usage = ⊥
-StopsReport before after ReadFault = ⊥
-StopsReport before after Long = ⊥
-StopsReport before after Many = ⊥
-StopsReport before after (BadLine number) = ⊥
-StopsReport before after FailedDevice = Rose before.faults after.faults × (after.told ≡ before.told)
-StopsReport before after Taken = ⊥
-StopsReport before after NoRegion = TellsNoRegion before × (after ≡ before)
-StopsReport before after (Damaged line) = TellsDamage line before × (after ≡ before)
-
 abbrev pub ComesToReport : Device → Device → Ending → Type 0
-ComesToReport before after (Stopped stop) = StopsReport before after stop
-ComesToReport before after (Served asks list) = ⊥
+ComesToReport before after (Stopped stop) = IsNotOpened before after stop
 ComesToReport before after (Reported s) = DeviceRepresents s before × (after ≡ before)
+ComesToReport before after _ = ⊥
 
--- what a call comes to, by its command. `replay` and `drill` aren't there yet
+-- `replay KIND CLIENTS SIZE`: the source's schedule happens in a world over a region that was just formatted. No device is
+-- touched
+
+abbrev pub StopsReplay : Header → Stream → Stop → Type 0
+StopsReplay head read Memory = HasReadSome read × IsSound read
+StopsReplay head read ReadFault = HasReadSome read × Rose read.faults_before read.faults
+StopsReplay head read Long = IsLong read
+StopsReplay head read Many = IsReadWhole HasTooManyEvents read
+StopsReplay head read (BadLine number) = IsReadWhole (HasBadEvent head number) read
+StopsReplay head read _ = ⊥
+
+abbrev pub ComesToReplay : Header → Stream → Ending → Type 0
+ComesToReplay head read (Stopped stop) = StopsReplay head read stop
+ComesToReplay head read (Replayed answers s) = IsReadWhole (λ bytes. IsReplayed head bytes answers s) read
+ComesToReplay head read _ = ⊥
+
+-- What a call comes to, by its command. Of words that are no command, and of `drill`, which isn't there yet, nothing is done
 abbrev pub Comes : Option Command → Call → Ending → Type 0
-Comes None call ending = ComesToUsage call ending
-Comes (Some (Fresh kind clients size)) call ending = ComesFresh (record { kind = kind; clients = clients; size = size }) call ending
-Comes (Some Run) call ending = ComesToRun call ending
+Comes (Some (Fresh kind clients size)) call (Stopped stop) =
+    StopsFresh (record { kind = kind; clients = clients; size = size }) call stop
+Comes (Some (Fresh kind clients size)) call (Served asks list) =
+    ServesFresh (record { kind = kind; clients = clients; size = size }) call asks list
+Comes (Some (Fresh kind clients size)) call _ = ⊥
+Comes (Some Run) call (Stopped stop) = StopsRun call stop
+Comes (Some Run) call (Served asks list) = ServesRun call asks list
+Comes (Some Run) call _ = ⊥
 Comes (Some Report) call ending = IsUnread call.read × ComesToReport call.before call.after ending
-Comes (Some (Replay kind clients size)) call ending = ComesToUsage call ending
-Comes (Some (Drill seed clients count)) call ending = ComesToUsage call ending
+Comes (Some (Replay kind clients size)) call ending =
+    ComesToReplay (record { kind = kind; clients = clients; size = size }) call.read ending × IsSameDevice call
+Comes _ call ending = (ending ≡ Stopped Usage) × IsUnread call.read × IsSameDevice call

@@ -1,8 +1,10 @@
 -- Laws of the program's theorem.
-use Rattle.std.specs.Prelude.{◌≡◌, ◌⊎◌, ℕ, ◌+◌, ◌≤◌, List, Option, Some, None, length, ◌<◌}
+use Rattle.std.specs.Prelude.{◌≡◌, ◌⊎◌, ℕ, ◌+◌, ◌≤◌, List, Option, Some, None, length, ◌<◌, count_by}
 use Rattle.pb_pmem.specs.declared.line.Line.{Line}
 use Rattle.pb_pmem.specs.Count.{Rose}
-use Rattle.pb_pmem.specs.Device.{Device}
+use Rattle.pb_pmem.specs.declared.log.LogOp.{LogOp}
+use Rattle.pb_pmem.specs.Crash.{is_sync}
+use Rattle.pb_pmem.specs.Device.{Device, Tale}
 use Rattle.pb_object.specs.declared.codes.Answer.TheVariants.{Is}
 use Rattle.pb_object.specs.declared.kind.Kind.{Kind}
 use Rattle.pb_object.specs.declared.request.Ask.{Ask}
@@ -14,24 +16,27 @@ use Rattle.pb_object.specs.Request.{reply}
 use Rattle.pb_object.specs.Standing.{Standing}
 use Rattle.pb_layout.specs.Damage.{HasRegion, IsDamagedAt}
 use Rattle.pb_layout.specs.Recovered.{Represents}
+use Rattle.pb_report.specs.declared.outcome.Outcome.{Outcome}
 use Rattle.pb_script.specs.declared.command.Command.{Command}
 use Rattle.pb_script.specs.declared.command.Command.TheVariants.{Fresh, Run, Report, Replay, Drill}
+use Rattle.pb_replay.specs.Replay.{HasTooManyEvents}
 use Rattle.pb_broker.specs.declared.source.TheConstants.{SOURCE_LIMIT}
 use Rattle.pb_broker.specs.declared.status.Status.{Status}
 use Rattle.pb_broker.specs.declared.status.Status.TheVariants.{Done, OutOfMemory, Misnumbered}
 use Rattle.pb_broker.specs.declared.stop.Stop.{Stop}
 use Rattle.pb_broker.specs.declared.stop.Stop.TheVariants.{Usage, Long, Many, Line as BadLine, Taken, NoRegion, Damaged}
-use Rattle.pb_broker.specs.Call.{Call, Output, Says}
+use Rattle.pb_broker.specs.Call.{Call, Says}
 use Rattle.pb_broker.specs.Comes.{HasTooMany, HasFew, HasBadLine, IsScriptOf}
-use Rattle.pb_broker.specs.Reading.{Reading}
+use Rattle.pb_broker.specs.Running.{is_fence, NoneInDoubt, IsLogged}
 use Rattle.pb_broker.specs.Texts.{stop_text, stop_status}
+use Rattle.pb_broker.specs.Stream.{Stream}
 
 -- Completeness
 
 -- the source tells a script of this kind for so many clients
-pub record TellsScript (kind : Kind) (clients : ℕ) (read : Reading) : Type 0 where
+pub record TellsScript (kind : Kind) (clients : ℕ) (read : Stream) : Type 0 where
   pub bytes : List ℕ
-  pub told : read.source ≡ Some bytes
+  pub told : read.before ≡ Some bytes
   pub few : length bytes ≤ SOURCE_LIMIT
   pub asks : List Ask
   pub script : IsScriptOf kind clients asks bytes
@@ -58,7 +63,7 @@ IsWellAsked (Some (Replay kind clients size)) call = ⊥
 IsWellAsked (Some (Drill seed clients count)) call = ⊥
 
 -- no call of source, device or sink failed
-pub record IsFaultless (call : Call) (out : Output) : Type 0 where
+pub record IsFaultless (call : Call) (out : Stream) : Type 0 where
   pub reads : ¬ Rose call.read.faults_before call.read.faults
   pub device : ¬ Rose call.before.faults call.after.faults
   pub writes : ¬ Rose out.faults_before out.faults
@@ -70,16 +75,16 @@ Succeeds status = (status ≡ Done) ⊎ ((status ≡ Misnumbered) ⊎ (status �
 -- Exactness
 
 -- the source tells bytes of which this holds
-pub record TellsBytes (Holds : List ℕ → Type 0) (read : Reading) : Type 0 where
+pub record TellsBytes (Holds : List ℕ → Type 0) (read : Stream) : Type 0 where
   pub bytes : List ℕ
-  pub told : read.source ≡ Some bytes
+  pub told : read.before ≡ Some bytes
   pub holds : Holds bytes
 
 abbrev pub IsTooLong : List ℕ → Type 0
 IsTooLong bytes = SOURCE_LIMIT < length bytes
 
 -- .. which are not too many, and of which this holds
-abbrev pub TellsSource : (List ℕ → Type 0) → Reading → Type 0
+abbrev pub TellsSource : (List ℕ → Type 0) → Stream → Type 0
 TellsSource Holds read = TellsBytes (λ bytes. (length bytes ≤ SOURCE_LIMIT) × Holds bytes) read
 
 -- the device tells lines of which this holds
@@ -89,27 +94,43 @@ pub record TellsLines (Holds : List Line → Type 0) (device : Device) : Type 0 
   pub holds : Holds image
 
 -- why a command stops, by what source and device tell. Want of memory and faults have no such cause
-abbrev pub HasCause : Option Command → Call → Stop → Type 0
-HasCause None call Usage = Unit {0}
-HasCause (Some (Fresh kind clients size)) call Long = TellsBytes IsTooLong call.read
-HasCause (Some (Fresh kind clients size)) call Many = TellsSource HasTooMany call.read
-HasCause (Some (Fresh kind clients size)) call (BadLine number) = TellsSource (HasBadLine kind clients number) call.read
-HasCause (Some (Fresh kind clients size)) call Taken = TellsScript kind clients call.read × TellsLines HasRegion call.before
-HasCause (Some Run) call Long = TellsBytes IsTooLong call.read
-HasCause (Some Run) call Many = TellsSource HasTooMany call.read
-HasCause (Some Run) call NoRegion = TellsSource HasFew call.read × TellsLines (λ image. ¬ HasRegion image) call.before
-HasCause (Some Run) call (Damaged line) = TellsSource HasFew call.read × TellsLines (λ image. IsDamagedAt image line) call.before
-HasCause (Some Run) call (BadLine number) =
+abbrev pub TellsCause : Option Command → Call → Stop → Type 0
+TellsCause None call Usage = Unit {0}
+TellsCause (Some (Fresh kind clients size)) call Long = TellsBytes IsTooLong call.read
+TellsCause (Some (Fresh kind clients size)) call Many = TellsSource HasTooMany call.read
+TellsCause (Some (Fresh kind clients size)) call (BadLine number) = TellsSource (HasBadLine kind clients number) call.read
+TellsCause (Some (Fresh kind clients size)) call Taken = TellsScript kind clients call.read × TellsLines HasRegion call.before
+TellsCause (Some Run) call Long = TellsBytes IsTooLong call.read
+TellsCause (Some Run) call Many = TellsSource HasTooMany call.read
+TellsCause (Some Run) call NoRegion = TellsSource HasFew call.read × TellsLines (λ image. ¬ HasRegion image) call.before
+TellsCause (Some Run) call (Damaged line) = TellsSource HasFew call.read × TellsLines (λ image. IsDamagedAt image line) call.before
+TellsCause (Some Run) call (BadLine number) =
     (s : Standing) × TellsStanding s call.before × TellsSource (HasBadLine s.kind s.clients number) call.read
-HasCause (Some Report) call NoRegion = TellsLines (λ image. ¬ HasRegion image) call.before
-HasCause (Some Report) call (Damaged line) = TellsLines (λ image. IsDamagedAt image line) call.before
-HasCause (Some (Replay kind clients size)) call Usage = Unit {0}
-HasCause (Some (Drill seed clients count)) call Usage = Unit {0}
-HasCause _ call _ = ⊥
+TellsCause (Some Report) call NoRegion = TellsLines (λ image. ¬ HasRegion image) call.before
+TellsCause (Some Report) call (Damaged line) = TellsLines (λ image. IsDamagedAt image line) call.before
+TellsCause (Some (Replay kind clients size)) call Long = TellsBytes IsTooLong call.read
+TellsCause (Some (Replay kind clients size)) call Many = TellsSource HasTooManyEvents call.read
+TellsCause (Some (Drill seed clients count)) call Usage = Unit {0}
+TellsCause _ call _ = ⊥
 
 -- the call says so, or memory ran out
-abbrev pub SaysStop : Output → Stop → Status → Type 0
+abbrev pub SaysStop : Stream → Stop → Status → Type 0
 SaysStop out stop status = Says out (stop_text stop) (stop_status stop) status ⊎ (status ≡ OutOfMemory)
+
+-- Cost
+
+-- these operations ask for so many fences and syncs
+pub record Costs (fences syncs : ℕ) (ops : List LogOp) : Type 0 where
+  pub fence : count_by is_fence ops ≡ fences
+  pub sync : count_by is_sync ops ≡ syncs
+
+-- a run from a standing on, behind these operations: where no line is in doubt, it asks for a fence and a sync for each of
+-- its rounds, and for so many more
+abbrev pub CostsOneEach : Standing → List LogOp → ℕ → ℕ → Type 0
+CostsOneEach s first fences syncs =
+    (asks : List Ask) (list : List Outcome) (tale : Tale) (after : Device)
+    (run : IsLogged s first asks list tale after) → NoneInDoubt list
+    → Costs (fences + length run.history) (syncs + length run.history) run.left.ops
 
 -- Maps
 

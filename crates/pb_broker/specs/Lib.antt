@@ -1,10 +1,12 @@
 pub mod Call
+pub mod Chain
 pub mod Comes
 pub mod Ending
 pub mod Laws
-pub mod Reading
 pub mod Running
 pub mod Serving
+pub mod Source
 pub mod Stops
+pub mod Stream
 pub mod Texts
 pub mod Top

@@ -1,5 +1,5 @@
 -- What the parts of a call come to, before any of it is printed.
-use Rattle.std.specs.Prelude.{◌≡◌, ◌⊎◌, ℕ, ◌≤◌, List, Option, length}
+use Rattle.std.specs.Prelude.{◌≡◌, ◌⊎◌, ℕ, ◌≤◌, List, Option, IfSome, length}
 use Rattle.std.specs.Io.KnownBytes.{Consumes, IsAtEnd}
 use Rattle.pb_pmem.specs.declared.device.DeviceFault.{DeviceFault as Fault}
 use Rattle.pb_pmem.specs.Count.{Rose}
@@ -8,54 +8,51 @@ use Rattle.pb_object.specs.declared.kind.Kind.{Kind}
 use Rattle.pb_object.specs.declared.request.Ask.{Ask}
 use Rattle.pb_object.specs.Standing.{Standing}
 use Rattle.pb_layout.specs.declared.header.Header.{Header}
+use Rattle.pb_layout.specs.Damage.{HasRegion}
 use Rattle.pb_pair.specs.declared.why.Why.TheVariants.{Device as DeviceWhy}
 use Rattle.pb_engine.specs.Opening.{IsFresh, IsFreshRefusal, IsAdopted}
 use Rattle.pb_engine.specs.View.{EngineView}
+use Rattle.pb_core.specs.declared.event.Stepped.{Stepped}
+use Rattle.pb_replay.specs.declared.played.Played.{Played}
+use Rattle.pb_replay.specs.Replay.{Holds, IsReplayed}
 use Rattle.pb_report.specs.declared.outcome.Outcome.{Outcome}
-use Rattle.pb_run.specs.Answer.{IsSettled, StaysUnsure}
+use Rattle.pb_run.specs.Answer.{SettlesEngine, StaysUnsure}
 use Rattle.pb_run.specs.Run.{HasRun}
 use Rattle.pb_broker.specs.declared.source.TheConstants.{SOURCE_LIMIT}
 use Rattle.pb_broker.specs.declared.stop.Stop.{Stop}
-use Rattle.pb_broker.specs.declared.stop.Stop.TheVariants.{Memory, ReadFault, Long, Many, Line, DeviceFault, Taken, NoRegion, Damaged}
+use Rattle.pb_broker.specs.declared.stop.Stop.TheVariants.{Memory, ReadFault, Long, Many, Line, DeviceFault, Taken}
 use Rattle.pb_broker.specs.declared.status.Status.{Status}
-use Rattle.pb_broker.specs.Call.{Output, IsSaid}
-use Rattle.pb_broker.specs.Comes.{HasTooMany, HasFew, IsScriptOf, HasBadLine, TellsRegion, TellsNoRegion, TellsDamage}
+use Rattle.pb_broker.specs.Call.{IsSaid}
+use Rattle.pb_broker.specs.Comes.{HasTooMany, HasFew, IsScriptOf, HasBadLine, StopsReadingFew, IsNotOpened}
 use Rattle.pb_broker.specs.Ending.{Stopped, Reported}
 use Rattle.pb_broker.specs.Texts.{ending_text, ending_status}
-use Rattle.pb_broker.specs.Reading.{Reading, IsSound, IsStopped, HasFailed, IsWhole, IsLong}
+use Rattle.pb_broker.specs.Source.{HasReadSome, IsReadWhole, IsLong}
+use Rattle.pb_broker.specs.Stream.{IsSound, Stream}
 
 -- The source
 
 -- all of it was read, and it isn't too long
-pub record ReadsAll (read : Reading) (bytes : List ℕ) : Type 0 where
-  pub consumes : Consumes read.source read.left bytes
-  pub end : IsAtEnd read.left
+pub record ReadsAll (read : Stream) (bytes : List ℕ) : Type 0 where
+  pub consumes : Consumes read.before read.after bytes
+  pub end : IsAtEnd read.after
   pub few : length bytes ≤ SOURCE_LIMIT
   pub sound : IsSound read
 
 -- some of the first bytes were taken, so many at most
 abbrev pub HasTaken : Option (List ℕ) → Option (List ℕ) → ℕ → Type 0
-HasTaken source left most = (front : List ℕ) × (length front ≤ most) × Consumes source left front
+HasTaken before after most = (front : List ℕ) × (length front ≤ most) × Consumes before after front
 
 -- why reading stops
-abbrev pub StopsReading : Reading → Stop → Type 0
-StopsReading read Memory = IsStopped read
-StopsReading read ReadFault = HasFailed read
+abbrev pub StopsReading : Stream → Stop → Type 0
+StopsReading read Memory = HasReadSome read × IsSound read
+StopsReading read ReadFault = HasReadSome read × Rose read.faults_before read.faults
 StopsReading read Long = IsLong read
 StopsReading read _ = ⊥
 
 -- .. and it has no more request lines than it may
-pub record ReadsFew (read : Reading) (bytes : List ℕ) : Type 0 where
+pub record ReadsFew (read : Stream) (bytes : List ℕ) : Type 0 where
   pub whole : ReadsAll read bytes
   pub short : HasFew bytes
-
--- why reading or counting stops
-abbrev pub StopsReadingFew : Reading → Stop → Type 0
-StopsReadingFew read Memory = IsStopped read
-StopsReadingFew read ReadFault = HasFailed read
-StopsReadingFew read Long = IsLong read
-StopsReadingFew read Many = IsWhole HasTooMany read
-StopsReadingFew read _ = ⊥
 
 -- why bytes are no script
 abbrev pub IsNoScript : Kind → ℕ → List ℕ → Stop → Type 0
@@ -65,13 +62,9 @@ IsNoScript kind clients bytes (Line number) = HasBadLine kind clients number byt
 IsNoScript kind clients bytes _ = ⊥
 
 -- why a source gives no requests
-abbrev pub StopsPreparing : Kind → ℕ → Reading → Stop → Type 0
-StopsPreparing kind clients read Memory = IsStopped read
-StopsPreparing kind clients read ReadFault = HasFailed read
-StopsPreparing kind clients read Long = IsLong read
-StopsPreparing kind clients read Many = IsWhole HasTooMany read
-StopsPreparing kind clients read (Line number) = IsWhole (HasBadLine kind clients number) read
-StopsPreparing kind clients read _ = ⊥
+abbrev pub StopsPreparing : Kind → ℕ → Stream → Stop → Type 0
+StopsPreparing kind clients read (Line number) = IsReadWhole (HasBadLine kind clients number) read
+StopsPreparing kind clients read stop = StopsReadingFew read stop
 
 -- A new region
 
@@ -87,7 +80,7 @@ pub record ServesNew (head : Header) (before after : Device) (asks : List Ask) (
 abbrev pub IsNotMade : Header → Device → Device → Stop → Type 0
 IsNotMade head before after Memory = after ≡ before
 IsNotMade head before after DeviceFault = (fault : Fault) × IsFreshRefusal head before after (DeviceWhy fault)
-IsNotMade head before after Taken = TellsRegion before × (after ≡ before)
+IsNotMade head before after Taken = IfSome before.now HasRegion × (after ≡ before)
 IsNotMade head before after _ = ⊥
 
 -- A region that is there
@@ -97,7 +90,7 @@ pub record ServesFound (kind : Kind) (found : EngineView) (bytes : List ℕ) (no
     (list : List Outcome) : Type 0 where
   pub script : IsScriptOf kind found.standing.clients asks bytes
   pub start : EngineView
-  pub settled : IsSettled found start
+  pub settled : SettlesEngine found start
   pub run : HasRun start asks now list
 
 -- why they weren't run
@@ -110,7 +103,7 @@ StopsFound kind found bytes now DeviceFault =
 StopsFound kind found bytes now _ = ⊥
 
 -- the region of a device was opened, and its engine came to this
-pub record Opens (before after : Device) (Comes : EngineView → EngineView → Type 0) : Type 0 where
+pub record OpensTo (before after : Device) (Comes : EngineView → EngineView → Type 0) : Type 0 where
   pub found : EngineView
   pub adopted : IsAdopted before found
   pub now : EngineView
@@ -119,25 +112,26 @@ pub record Opens (before after : Device) (Comes : EngineView → EngineView → 
 
 abbrev pub ServesOn : List ℕ → Device → Device → List Ask → List Outcome → Type 0
 ServesOn bytes before after asks list =
-    Opens before after (λ found now. ServesFound found.standing.kind found bytes now asks list)
-
--- the region couldn't be opened
-abbrev pub IsNotOpened : Device → Device → Stop → Type 0
-IsNotOpened before after Memory = after ≡ before
-IsNotOpened before after DeviceFault = Rose before.faults after.faults × (after.told ≡ before.told)
-IsNotOpened before after NoRegion = TellsNoRegion before × (after ≡ before)
-IsNotOpened before after (Damaged line) = TellsDamage line before × (after ≡ before)
-IsNotOpened before after _ = ⊥
+    OpensTo before after (λ found now. ServesFound found.standing.kind found bytes now asks list)
 
 -- it couldn't be opened, or its requests weren't run
 abbrev pub StopsOn : List ℕ → Device → Device → Stop → Type 0
 StopsOn bytes before after stop =
-    IsNotOpened before after stop ⊎ Opens before after (λ found now. StopsFound found.standing.kind found bytes now stop)
+    IsNotOpened before after stop ⊎ OpensTo before after (λ found now. StopsFound found.standing.kind found bytes now stop)
+
+-- The replay of a schedule
+
+-- the source was played, and this is held of it
+pub record HasPlayed (head : Header) (read : Stream) (played : Played) : Type 0 where
+  pub answers : List Stepped
+  pub standing : Standing
+  pub source : IsReadWhole (λ bytes. IsReplayed head bytes answers standing) read
+  pub holds : Holds played answers standing
 
 -- The report of a region
 
 -- the report of a standing was printed; or memory ran out, and nothing was
-abbrev pub IsPrinted : Standing → Output → Status → Type 0
+abbrev pub IsPrinted : Standing → Stream → Status → Type 0
 IsPrinted s out status =
     IsSaid out (ending_text (Reported s)) (ending_status (Reported s)) status
     ⊎ IsSaid out (ending_text (Stopped Memory)) (ending_status (Stopped Memory)) status

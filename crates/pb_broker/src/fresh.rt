@@ -4,8 +4,9 @@ ghost use Rattle.pb_object.specs.declared.kind.Kind.TheVariants.{Queue};
 ghost use Rattle.pb_script.specs.Script.{IsAskOf};
 ghost use Rattle.pb_broker.specs.Call.{Call};
 ghost use Rattle.pb_broker.specs.Comes.{IsScriptOf, ServesFresh, StopsFresh};
-ghost use Rattle.pb_broker.specs.Reading.{IsWhole, reading};
 ghost use Rattle.pb_broker.specs.Serving.{StopsPreparing, ServesNew, IsNotMade};
+ghost use Rattle.pb_broker.specs.Source.{IsReadWhole};
+ghost use Rattle.pb_broker.specs.Stream.{stream};
 
 use crate::command::{Ran, refused};
 use crate::requests::{Requests, read_requests, serve};
@@ -33,7 +34,7 @@ pub fn fresh<S: Source, P: Pmem, G: Gate>(
     gate: &G,
 ) -> Ran<P>
     ensures { let call : Call = record {
-      read = reading (S.rest source.old) (S.rest source.new) (S.fault_count source.old) (S.fault_count source.new);
+      read = stream (S.rest source.old) (S.rest source.new) (S.fault_count source.old) (S.fault_count source.new);
       before = P.seen device;
       after = P.seen result.device;
     } in
@@ -50,10 +51,10 @@ pub fn fresh<S: Source, P: Pmem, G: Gate>(
 
 /// Reads the source, and judges its lines.
 fn prepare<S: Source>(alloc: Global, head: &Header, source: &mut S) -> Result<Requests, Stop>
-    ensures script { let read = reading (S.rest source.old) (S.rest source.new) (S.fault_count source.old) (S.fault_count source.new) in
-        IfOk result (λ requests. IsWhole (IsScriptOf head.now.kind head.now.clients requests.asks.items) read) }
+    ensures script { let read = stream (S.rest source.old) (S.rest source.new) (S.fault_count source.old) (S.fault_count source.new) in
+        IfOk result (λ requests. IsReadWhole (IsScriptOf head.now.kind head.now.clients requests.asks.items) read) }
     ensures asks { IfOk result (λ requests. All (IsAskOf head.now.kind head.now.clients) requests.asks.items) }
-    ensures err { let read = reading (S.rest source.old) (S.rest source.new) (S.fault_count source.old) (S.fault_count source.new) in
+    ensures err { let read = stream (S.rest source.old) (S.rest source.new) (S.fault_count source.old) (S.fault_count source.new) in
         IfErr result (StopsPreparing head.now.kind head.now.clients read) }
 {
     let bytes = read_all(alloc, source)?;

@@ -1,13 +1,15 @@
 //! Printing what a call came to, and its status.
-ghost use Rattle.std.specs.Prelude.{◌≡◌, ◌⊎◌, ◌≤◌, length, MatchResult};
+ghost use Rattle.std.specs.Prelude.{◌≡◌, ◌⊎◌, ◌≤◌, [], ◌∷◌, length, MatchResult};
 ghost use Rattle.std.specs.Io.KnownBytes.{Keeps};
 ghost use Rattle.std.specs.List.{list_any};
 ghost use Rattle.pb_pmem.specs.Count.{Rose};
 ghost use Rattle.pb_report.specs.OutcomeText.{outcomes_text};
+ghost use Rattle.pb_report.specs.Pieces.{numbered};
 ghost use Rattle.pb_run.specs.Run.{is_doubt};
 ghost use Rattle.pb_broker.specs.declared.status.Status.TheVariants.{WriteFault};
-ghost use Rattle.pb_broker.specs.Call.{IsSaid, output};
-ghost use Rattle.pb_broker.specs.Texts.{numbered, stop_text, stop_status, run_status, is_misnumbered};
+ghost use Rattle.pb_broker.specs.Call.{IsSaid};
+ghost use Rattle.pb_broker.specs.Texts.{stop_text, stop_status, run_status, is_misnumbered};
+ghost use Rattle.pb_broker.specs.Stream.{stream};
 
 use crate::requests::Requests;
 use crate::status::Status;
@@ -19,7 +21,7 @@ use pb_report::{Outcome, send, write_outcomes};
 
 /// Prints the outcomes of a run, or why there was none.
 pub fn print<K: Sink>(sink: &mut K, served: &Result<Requests, Stop>) -> Status
-    ensures { let out = output (K.bytes sink.old) (K.bytes sink.new) (K.fault_count sink.old) (K.fault_count sink.new) in
+    ensures { let out = stream (K.bytes sink.old) (K.bytes sink.new) (K.fault_count sink.old) (K.fault_count sink.new) in
         MatchResult served.now
         (λ requests. IsSaid out (outcomes_text requests.asks.items requests.outcomes.items) (run_status requests.outcomes.items) result)
         (λ stop. IsSaid out (stop_text stop) (stop_status stop) result) }
@@ -35,7 +37,7 @@ pub fn print<K: Sink>(sink: &mut K, served: &Result<Requests, Stop>) -> Status
 
 /// Prints why a call stopped.
 pub fn print_stop<K: Sink>(sink: &mut K, stop: &Stop) -> Status
-    ensures { let out = output (K.bytes sink.old) (K.bytes sink.new) (K.fault_count sink.old) (K.fault_count sink.new) in
+    ensures { let out = stream (K.bytes sink.old) (K.bytes sink.new) (K.fault_count sink.old) (K.fault_count sink.new) in
         IsSaid out (stop_text stop.now) (stop_status stop.now) result }
 {
     let text = stop_text(stop);
@@ -123,11 +125,11 @@ fn stop_text(stop: &Stop) -> Text
         Stop::ReadFault => line("read fault\n"),
         Stop::Long => line("long\n"),
         Stop::Many => line("many\n"),
-        Stop::Line(number) => numbered("line ", *number),
+        Stop::Line(number) => numbered("line", *number),
         Stop::DeviceFault => line("device fault\n"),
         Stop::Taken => line("taken\n"),
         Stop::NoRegion => line("none\n"),
-        Stop::Damaged(place) => numbered("damaged ", *place),
+        Stop::Damaged(place) => numbered("damaged", *place),
     }
 }
 
@@ -142,10 +144,11 @@ fn line(word: &str) -> Text
 
 fn numbered(word: &str, number: u32) -> Text
     requires { length word.now ≤ 16 }
-    ensures { result.bytes ≡ numbered word.now number }
+    ensures { result.bytes ≡ numbered word.now (number ∷ []) }
 {
     let mut text = line(word);
     let mut digits = Buffer::new();
+    text.push_str(" ");
     text.push_str(digits.format(number));
     text.push_str("\n");
     text

@@ -3,14 +3,15 @@ ghost use Rattle.std.specs.Prelude.{◌≡◌, MatchResult};
 ghost use Rattle.pb_script.specs.Command.{texts};
 ghost use Rattle.pb_report.specs.OutcomeText.{outcomes_text};
 ghost use Rattle.pb_broker.specs.declared.stop.Stop.TheVariants.{Usage};
-ghost use Rattle.pb_broker.specs.Call.{Call, IsSaid, output};
-ghost use Rattle.pb_broker.specs.Reading.{reading};
+ghost use Rattle.pb_broker.specs.Call.{Call, IsSaid};
 ghost use Rattle.pb_broker.specs.Texts.{run_status, stop_status, stop_text};
 ghost use Rattle.pb_broker.specs.Top.{IsAnswered};
+ghost use Rattle.pb_broker.specs.Stream.{stream};
 
 use crate::command::Ran;
 use crate::fresh::fresh;
 use crate::print::{print, print_stop};
+use crate::replays::replay;
 use crate::reports::report;
 use crate::run::run;
 use crate::status::Status;
@@ -35,6 +36,8 @@ pub struct Done<P: Drop> {
 /// - `fresh KIND CLIENTS SIZE` makes a region on a device that has none, and runs the source's script on it.
 /// - `run` opens the device's region, settles it, and runs the source's script on it.
 /// - `report` prints what the device's region holds. It reads no source and writes nothing to the device.
+/// - `replay KIND CLIENTS SIZE` plays the source's schedule through the protocol on plain data, and prints its answers and the report of
+///   what is left. It doesn't touch the device.
 ///
 /// Any other words are no command. The words are judged first, then the source is read and its request lines are counted;
 /// its lines are judged before a region is made, and behind the opening of one. All memory is taken before the device is
@@ -53,11 +56,11 @@ pub fn top<S: Source, K: Sink, P: Pmem + Send, G: Gate>(
     gate: &G,
 ) -> Done<P>
     ensures { let call : Call = record {
-      read = reading (S.rest source.old) (S.rest source.new) (S.fault_count source.old) (S.fault_count source.new);
+      read = stream (S.rest source.old) (S.rest source.new) (S.fault_count source.old) (S.fault_count source.new);
       before = P.seen device;
       after = P.seen result.device;
     } in
-        let out = output (K.bytes sink.old) (K.bytes sink.new) (K.fault_count sink.old) (K.fault_count sink.new) in
+        let out = stream (K.bytes sink.old) (K.bytes sink.new) (K.fault_count sink.old) (K.fault_count sink.new) in
         IsAnswered (texts words.now) call out result.status }
 {
     match parse_words(words) {
@@ -77,7 +80,16 @@ pub fn top<S: Source, K: Sink, P: Pmem + Send, G: Gate>(
         }
         Some(Command::Run) => finish(sink, run(alloc, source, device, gate)),
         Some(Command::Report) => report(alloc, sink, device),
-        Some(Command::Replay { .. }) => no_command(sink, device),
+        Some(
+            Command::Replay {
+                kind,
+                clients,
+                size,
+            },
+        ) => Done {
+            status: replay(alloc, kind, clients, size, source, sink),
+            device,
+        },
         Some(Command::Drill { .. }) => no_command(sink, device),
         None => no_command(sink, device),
     }
@@ -85,7 +97,7 @@ pub fn top<S: Source, K: Sink, P: Pmem + Send, G: Gate>(
 
 /// Prints what a run came to.
 fn finish<K: Sink, P: Pmem>(sink: &mut K, ran: Ran<P>) -> Done<P>
-    ensures said { let out = output (K.bytes sink.old) (K.bytes sink.new) (K.fault_count sink.old) (K.fault_count sink.new) in
+    ensures said { let out = stream (K.bytes sink.old) (K.bytes sink.new) (K.fault_count sink.old) (K.fault_count sink.new) in
         MatchResult ran.served
         (λ requests. IsSaid out (outcomes_text requests.asks.items requests.outcomes.items) (run_status requests.outcomes.items) result.status)
         (λ stop. IsSaid out (stop_text stop) (stop_status stop) result.status) }
@@ -99,7 +111,7 @@ fn finish<K: Sink, P: Pmem>(sink: &mut K, ran: Ran<P>) -> Done<P>
 }
 
 fn no_command<K: Sink, P: Pmem>(sink: &mut K, device: P) -> Done<P>
-    ensures said { let out = output (K.bytes sink.old) (K.bytes sink.new) (K.fault_count sink.old) (K.fault_count sink.new) in
+    ensures said { let out = stream (K.bytes sink.old) (K.bytes sink.new) (K.fault_count sink.old) (K.fault_count sink.new) in
         IsSaid out (stop_text Usage) (stop_status Usage) result.status }
     ensures device { P.seen result.device ≡ P.seen device }
 {

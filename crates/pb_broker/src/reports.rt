@@ -2,11 +2,12 @@
 ghost use Rattle.std.specs.Prelude.{◌≡◌};
 ghost use Rattle.pb_pair.specs.Open.{IsOpened};
 ghost use Rattle.pb_region_report.specs.AnyEngine.{view_of};
-ghost use Rattle.pb_broker.specs.Call.{IsSaid, output};
+ghost use Rattle.pb_broker.specs.Call.{IsSaid};
 ghost use Rattle.pb_broker.specs.Stops.{stop_of_device};
 ghost use Rattle.pb_broker.specs.Texts.{stop_text, stop_status};
 ghost use Rattle.pb_broker.specs.Serving.{IsPrinted};
 ghost use Rattle.pb_broker.specs.Top.{IsReported};
+ghost use Rattle.pb_broker.specs.Stream.{stream};
 
 use crate::print::{print_stop, status_of};
 use crate::program::Done;
@@ -22,7 +23,7 @@ use std::alloc::Global;
 ///
 /// What was stored and is in doubt since a call of the device failed may be printed though it isn't durable yet.
 pub fn report<K: Sink, P: Pmem>(alloc: Global, sink: &mut K, device: P) -> Done<P>
-    ensures { let out = output (K.bytes sink.old) (K.bytes sink.new) (K.fault_count sink.old) (K.fault_count sink.new) in
+    ensures { let out = stream (K.bytes sink.old) (K.bytes sink.new) (K.fault_count sink.old) (K.fault_count sink.new) in
         IsReported (P.seen device) (P.seen result.device) out result.status }
 {
     match Pair::open(alloc, device) {
@@ -34,7 +35,7 @@ pub fn report<K: Sink, P: Pmem>(alloc: Global, sink: &mut K, device: P) -> Done<
 /// Prints what a region that was opened holds.
 fn report_opened<K: Sink, P: Pmem>(alloc: Global, sink: &mut K, pair: Pair<P>) -> Done<P>
     requires { IsOpened pair.device pair }
-    ensures { let out = output (K.bytes sink.old) (K.bytes sink.new) (K.fault_count sink.old) (K.fault_count sink.new) in
+    ensures { let out = stream (K.bytes sink.old) (K.bytes sink.new) (K.fault_count sink.old) (K.fault_count sink.new) in
         IsReported pair.device (P.seen result.device) out result.status }
 {
     match AnyEngine::adopt(alloc, pair) {
@@ -48,7 +49,7 @@ fn report_opened<K: Sink, P: Pmem>(alloc: Global, sink: &mut K, pair: Pair<P>) -
 
 /// Prints what an engine last knew for sure.
 fn print_report<K: Sink, P: Pmem>(alloc: Global, sink: &mut K, engine: &AnyEngine<P>) -> Status
-    ensures { let out = output (K.bytes sink.old) (K.bytes sink.new) (K.fault_count sink.old) (K.fault_count sink.new) in
+    ensures { let out = stream (K.bytes sink.old) (K.bytes sink.new) (K.fault_count sink.old) (K.fault_count sink.new) in
         IsPrinted (view_of engine.now).standing out result }
 {
     match write_report(alloc, sink, engine) {
@@ -60,7 +61,7 @@ fn print_report<K: Sink, P: Pmem>(alloc: Global, sink: &mut K, engine: &AnyEngin
 
 /// Prints why a region wasn't opened.
 fn refuse<K: Sink, P: Pmem>(sink: &mut K, refused: Refused<P>) -> Done<P>
-    ensures said { let out = output (K.bytes sink.old) (K.bytes sink.new) (K.fault_count sink.old) (K.fault_count sink.new) in
+    ensures said { let out = stream (K.bytes sink.old) (K.bytes sink.new) (K.fault_count sink.old) (K.fault_count sink.new) in
         IsSaid out (stop_text (stop_of_device refused.why)) (stop_status (stop_of_device refused.why)) result.status }
     ensures device { P.seen result.device ≡ P.seen refused.device }
 {

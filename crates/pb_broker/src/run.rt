@@ -4,9 +4,9 @@ ghost use Rattle.pb_object.specs.declared.kind.Kind.TheVariants.{Queue};
 ghost use Rattle.pb_pair.specs.Open.{IsOpened};
 ghost use Rattle.pb_broker.specs.declared.source.TheConstants.{SOURCE_LIMIT};
 ghost use Rattle.pb_broker.specs.Call.{Call};
-ghost use Rattle.pb_broker.specs.Comes.{ServesRun, StopsRun};
-ghost use Rattle.pb_broker.specs.Reading.{reading};
-ghost use Rattle.pb_broker.specs.Serving.{ReadsFew, StopsReadingFew, ServesFound, StopsFound, ServesOn, StopsOn};
+ghost use Rattle.pb_broker.specs.Comes.{ServesRun, StopsReadingFew, StopsRun};
+ghost use Rattle.pb_broker.specs.Serving.{ReadsFew, ServesFound, StopsFound, ServesOn, StopsOn};
+ghost use Rattle.pb_broker.specs.Stream.{stream};
 
 use crate::command::{Ran, refused};
 use crate::requests::{Requests, read_requests, serve};
@@ -36,7 +36,7 @@ pub fn run<S: Source, P: Pmem, G: Gate>(
     gate: &G,
 ) -> Ran<P>
     ensures { let call : Call = record {
-      read = reading (S.rest source.old) (S.rest source.new) (S.fault_count source.old) (S.fault_count source.new);
+      read = stream (S.rest source.old) (S.rest source.new) (S.fault_count source.old) (S.fault_count source.new);
       before = P.seen device;
       after = P.seen result.device;
     } in
@@ -53,9 +53,9 @@ pub fn run<S: Source, P: Pmem, G: Gate>(
 
 /// Reads the source, and counts its request lines.
 fn read_few<S: Source>(alloc: Global, source: &mut S) -> Result<Vec<u8>, Stop>
-    ensures ok { let read = reading (S.rest source.old) (S.rest source.new) (S.fault_count source.old) (S.fault_count source.new) in
+    ensures ok { let read = stream (S.rest source.old) (S.rest source.new) (S.fault_count source.old) (S.fault_count source.new) in
         IfOk result (λ bytes. ReadsFew read bytes.items) }
-    ensures err { let read = reading (S.rest source.old) (S.rest source.new) (S.fault_count source.old) (S.fault_count source.new) in
+    ensures err { let read = stream (S.rest source.old) (S.rest source.new) (S.fault_count source.old) (S.fault_count source.new) in
         IfErr result (StopsReadingFew read) }
 {
     let bytes = read_all(alloc, source)?;

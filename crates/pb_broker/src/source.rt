@@ -1,8 +1,8 @@
 ghost use Rattle.std.specs.Prelude.{◌≡◌, ◌+◌, ◌<◌, ◌≤◌, length, take, MatchResult, IfOk, OnErr};
 ghost use Rattle.std.specs.Io.KnownBytes.{Consumes, IsAtEnd};
 ghost use Rattle.pb_pmem.specs.Count.{HasCause};
-ghost use Rattle.pb_broker.specs.Reading.{reading};
 ghost use Rattle.pb_broker.specs.Serving.{HasTaken, ReadsAll, StopsReading};
+ghost use Rattle.pb_broker.specs.Stream.{stream};
 
 use crate::stop::Stop;
 use pb_io::{Source, SourceFault};
@@ -13,7 +13,7 @@ pub const SOURCE_LIMIT: usize = 4194304;
 
 /// Reads a source to its end, or one byte past the limit.
 pub fn read_all<S: Source>(alloc: Global, source: &mut S) -> Result<Vec<u8>, Stop>
-    ensures { let read = reading (S.rest source.old) (S.rest source.new) (S.fault_count source.old) (S.fault_count source.new) in
+    ensures { let read = stream (S.rest source.old) (S.rest source.new) (S.fault_count source.old) (S.fault_count source.new) in
         MatchResult result (λ bytes. ReadsAll read bytes.items) (StopsReading read) }
 {
     let Ok(mut bytes) = zeros(alloc) else {

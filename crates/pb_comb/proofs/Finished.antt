@@ -1,26 +1,34 @@
 -- A round from its parts, and what it comes to in the words of engines.
-use Rattle.std.proofs.Common.{◌≡◌, ℕ, ◌+◌, ◌-◌, ◌<◌, ◌≤◌, List, [], length, drop, sym, ap, subst, ◌∙◌, arith, ◌++◌, Result, Ok, Err, IsOk, OnOk, ◌↔◌}
+use Rattle.std.proofs.Common.{◌≡◌, ◌≢◌, ℕ, ◌+◌, ◌*◌, ◌/◌, ◌%◌, ◌∷◌, ◌-◌, ◌<◌, ◌≤◌, List, [], length, drop, sym, ap, subst, ◌∙◌, arith, ◌++◌, Result, Ok, Err, IsOk, OnOk, ◌↔◌}
 use Rattle.pb_pmem.specs.declared.device.DeviceFault.{DeviceFault}
+use Rattle.std.specs.List.{All}
+use Rattle.std.proofs.lemmas.List.{ext_get_or, get_or-drop, length-drop}
+use Rattle.std.proofs.lemmas.List.Elements.{All-nil, All-head, All-tail, All-cons}
 use Rattle.pb_pmem.specs.declared.line.Line.{Line}
+use Rattle.pb_pmem.specs.Lines.{line_at, zero_line}
 use Rattle.pb_object.specs.declared.kind.Kind.{Kind}
 use Rattle.pb_object.specs.declared.request.Ask.{Ask}
-use Rattle.pb_object.specs.Object.{State}
+use Rattle.pb_object.specs.declared.kind.Kind.TheVariants.{Queue}
+use Rattle.pb_object.specs.declared.request.TheConstants.{KEPT_REQUESTS}
+use Rattle.pb_object.specs.Changes.{after_asks}
+use Rattle.pb_object.specs.Object.{State, next_state}
 use Rattle.pb_object.specs.ObjectLines.{size_of, object_line_count, LinesRepresent}
-use Rattle.pb_object.specs.Standing.{side_count}
+use Rattle.pb_object.specs.Standing.{Standing, side_count}
+use Rattle.pb_layout.specs.NextRecord.{IsOfOther}
 use Rattle.pb_layout.specs.Header.{slot_count}
 use Rattle.pb_layout_laws.proofs.FewRounds.{records_few}
 use Rattle.pb_pair.specs.Safe.{StoreCovers, FailedStoreCovers}
 use Rattle.pb_pair.specs.Store.{IsStored, HasFailedStore}
 use Rattle.pb_pair.specs.View.{PairView, round_of, lines_of}
-use Rattle.pb_engine.specs.Asks.{MayBeServed, answered_from, state_from, asked_round}
+use Rattle.pb_engine.specs.Asks.{MayBeServed, IsNextAsk, side_asked, answered_by, answered_from, state_from, asked_round}
 use Rattle.pb_engine.specs.Covers.{RoundCovers, FailedRoundCovers}
 use Rattle.pb_engine.specs.Next.{IsBegun, PutsEntries, KeepsBefore}
 use Rattle.pb_engine.specs.Outcomes.{HasMade, HasFailedToMake}
 use Rattle.pb_engine.specs.View.{EngineView}
-use Rattle.pb_engine.proofs.Served.{state_from-none}
+use Rattle.pb_engine.proofs.Served.{state_from-none, state_is_after, answered_from-none, answered_from-more}
 use Rattle.pb_comb.specs.View.{standing_of, comb_view, IsComb}
 use Rattle.pb_comb.proofs.Made.{made, made_safely, failed_to_make, failed_safely, stored_comb}
-use Rattle.pb_comb.proofs.Records.{one_side, next_of}
+use Rattle.pb_comb.proofs.Records.{one_side, parts_of_one, next_of}
 use Rattle.pb_comb.proofs.Rounds.{IsRound}
 use Rattle.pb_comb.proofs.Settling.{size_from}
 
@@ -65,6 +73,56 @@ round_from kind pair state ahead after next asked asks round before again begun 
 
     first : length served - object_line_count kind (size_of after) ≡ 1 + slot_count pair.head
     first = omega (arith, object_first kind pair state ahead after next asks round before again begun served lines (subst (IsComb kind pair state ahead next) none is) written)
+
+-- The object's lines stay while the slots are written
+
+-- no request is of a client that isn't there
+apart_from : (s : Standing) (side client : ℕ) (state : State) (asks : List Ask) → s.clients ≤ client → All (IsNextAsk s side) asks → All (IsOfOther client) (answered_from state asks)
+apart_from s side client state [] past next = subst (All (IsOfOther client)) (sym (answered_from-none state)) (All-nil (IsOfOther client))
+apart_from s side client state (ask ∷ asks) past next =
+    let is = All-head (IsNextAsk s side) ask asks next in
+    subst (All (IsOfOther client)) (sym (answered_from-more state ask asks))
+    (All-cons (IsOfOther client) (answered_by state ask) (answered_from (next_state state ask.op) asks) (λ e. absurd (omega (arith, e, is.client, past)))
+    (apart_from s side client (next_state state ask.op) asks past (All-tail (IsNextAsk s side) ask asks next)))
+
+line_stays : (kind : Kind) (pair : PairView) (state ahead after : State) (asks : List Ask) (round : ℕ) (before again begun served lines : List Line) → MayBeServed (standing_of pair state) asks → IsWritten kind pair ahead after asks round before again begun served lines → (k : ℕ) → line_at served (1 + slot_count pair.head + k) ≡ line_at (lines_of pair 0) (1 + slot_count pair.head + k)
+line_stays kind pair state ahead after asks round before again begun served lines may written k =
+    let client : ℕ = pair.head.clients + k / 8 in
+    let at : 1 + slot_count pair.head + k ≡ 1 + (KEPT_REQUESTS * client + k % 8) = omega arith in
+    ap (line_at served) at
+    ∙ (written.serves.others client (k % 8) (omega arith) (apart_from (standing_of pair state) (side_asked asks) client ahead asks (omega arith) may.next)
+    ∙ (written.begins.others (1 + (KEPT_REQUESTS * client + k % 8)) (omega arith)
+    ∙ (λ i. line_at (written.before_is i) (sym at i))))
+
+object_stays : (kind : Kind) (pair : PairView) (state ahead after : State) (asks : List Ask) (round : ℕ) (before again begun served lines : List Line) → MayBeServed (standing_of pair state) asks → IsWritten kind pair ahead after asks round before again begun served lines → drop (1 + slot_count pair.head) served ≡ drop (1 + slot_count pair.head) (lines_of pair 0)
+object_stays kind pair state ahead after asks round before again begun served lines may written =
+    let first = 1 + slot_count pair.head in
+    let long : length served ≡ length (lines_of pair 0) = written.serves.long ∙ (written.begins.long ∙ ap length written.before_is) in
+    ext_get_or zero_line (drop first served) (drop first (lines_of pair 0)) (omega (arith, length-drop first served, length-drop first (lines_of pair 0), long))
+    (λ k inside. get_or-drop first served k zero_line ∙ (line_stays kind pair state ahead after asks round before again begun served lines may written k ∙ sym (get_or-drop first (lines_of pair 0) k zero_line)))
+
+-- so the object brings them up to date
+pub round_by : {others : List Ask} (kind : Kind) (pair : PairView) (state ahead after : State) (next : List Line) (asked asks : List Ask) (round : ℕ) (before again begun served lines : List Line) → asked ≡ [] → IsComb kind pair state ahead next asked → MayBeServed (standing_of pair state) asks → IsWritten kind pair ahead after asks round before again begun served lines
+    → KeepsBefore (length served - object_line_count kind (size_of after)) served lines → others ≡ asks
+    → ((was : State) → LinesRepresent (drop (length served - object_line_count kind (size_of after)) served) was → after ≡ after_asks was others → LinesRepresent (drop (length served - object_line_count kind (size_of after)) lines) after) → IsRound kind pair state asks lines
+round_by {others} kind pair state ahead after next asked asks round before again begun served lines none is may written keeps same_asks changes =
+    round_from kind pair state ahead after next asked asks round before again begun served lines none is may written keeps
+    (changes state stands (written.moves ∙ (ap (λ (st : State). state_from st asks) same ∙ (state_is_after asks state ∙ ap (after_asks state) (sym same_asks)))))
+  where
+    same : ahead ≡ state
+    same = is.ahead_by ∙ (ap (state_from state) none ∙ state_from-none state)
+
+    first : length served - object_line_count kind (size_of after) ≡ 1 + slot_count pair.head
+    first = omega (arith, object_first kind pair state ahead after next asks round before again begun served lines (subst (IsComb kind pair state ahead next) none is) written)
+
+    not_queue : pair.head.kind ≢ Queue
+    not_queue queue = is.one_side (sym is.kind_is ∙ queue)
+
+    stands : LinesRepresent (drop (length served - object_line_count kind (size_of after)) served) state
+    stands =
+        subst (λ (n : ℕ). LinesRepresent (drop n served) state) (sym first)
+        (subst (λ (ls : List Line). LinesRepresent ls state) (sym (object_stays kind pair state ahead after asks round before again begun served lines may written))
+        (subst (λ (ls : List Line). LinesRepresent ls state) (parts_of_one pair.head.kind pair.head (lines_of pair) not_queue) is.records.state))
 
 -- the next round number fits a word
 pub number_fits : (kind : Kind) (pair : PairView) (state ahead : State) (next : List Line) (asked : List Ask) → IsComb kind pair state ahead next asked → round_of pair 0 + 1 < 18446744073709551616

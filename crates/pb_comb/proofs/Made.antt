@@ -1,5 +1,5 @@
 -- A round that was stored, and one that failed.
-use Rattle.std.proofs.Common.{◌≡◌, ◌≢◌, ℕ, zero, suc, Bool, true, false, Option, Some, None, IfSome, List, [], ◌∷◌, ◌++◌, refl, sym, ap, subst, ◌∙◌, arith, length}
+use Rattle.std.proofs.Common.{◌≡◌, ◌≢◌, ℕ, zero, suc, ◌<◌, Bool, true, false, Option, Some, None, IfSome, List, [], ◌∷◌, ◌++◌, refl, sym, ap, subst, ◌∙◌, arith, length}
 use Rattle.pb_pmem.specs.declared.device.DeviceFault.{DeviceFault}
 use Rattle.pb_pmem.specs.declared.line.Line.{Line}
 use Rattle.pb_pmem.specs.declared.log.LogOp.{LogOp}
@@ -8,7 +8,7 @@ use Rattle.pb_object.specs.declared.kind.Kind.{Kind}
 use Rattle.pb_object.specs.declared.request.Ask.{Ask}
 use Rattle.pb_object.specs.History.{Round, after_round}
 use Rattle.pb_object.specs.Object.{State}
-use Rattle.pb_object.specs.Standing.{Standing}
+use Rattle.pb_object.specs.Standing.{Standing, side_count}
 use Rattle.pb_layout.specs.declared.header.Header.{Header}
 use Rattle.pb_layout.specs.Header.{record_length}
 use Rattle.pb_layout.specs.NextRecord.{IsNextOf}
@@ -18,18 +18,19 @@ use Rattle.pb_pair.specs.declared.known.Known.TheVariants.{Failed}
 use Rattle.pb_pair.specs.Safe.{StoreCovers, FailedStoreCovers}
 use Rattle.pb_pair.specs.Settle.{was_called}
 use Rattle.pb_pair.specs.Store.{stored_ops, staged_ops, IsStored, IsFailedStore, HasFailedStore, doubt_of}
-use Rattle.pb_pair.specs.View.{SideView, PairView, side_of, round_of, lines_of, forgotten, HasFailed, if_known}
+use Rattle.pb_pair.specs.View.{SideView, PairView, side_of, round_of, lines_of, forgotten, HasFailed}
 use Rattle.pb_pair.proofs.Safe.{stored_represents}
 use Rattle.pb_pair.proofs.Told.{if_some_mapped}
 use Rattle.pb_engine.specs.Asks.{side_asked, state_from, asked_round}
 use Rattle.pb_engine.specs.Covers.{RoundCovers, FailedRoundCovers}
 use Rattle.pb_engine.specs.Operations.{committed_ops, round_ops, IsFailedRoundOps}
 use Rattle.pb_engine.specs.Outcomes.{stored_on_first, stored_on_second, HasMade, IsUnsure, HasFailedToMake, IsNextRecordOf}
-use Rattle.pb_engine.specs.View.{IsKnown, was_called as engine_called}
+use Rattle.pb_engine.specs.View.{IsInUse, AreInUse, was_called as engine_called}
 use Rattle.pb_engine.specs.Pairs.{is_sure, known_records, doubt_of as engine_doubt}
 use Rattle.pb_comb.specs.View.{standing_of, comb_view, HasDoubt, IsComb}
 use Rattle.pb_comb.proofs.Records.{one_side, round_for, pair_of}
 use Rattle.pb_comb.proofs.Rounds.{IsRound, side_zero, no_queue, store_next, next_in, cells_of, store_of, ops_of, commits_of, HasMoved, standing_moved, records_moved}
+use Rattle.pb_engine.proofs.InUse.{stored_in_use}
 use Rattle.pb_engine.proofs.Served.{state_from-none}
 use Rattle.pb_layout.specs.Record.{kept_in_slots}
 use Rattle.pb_layout_laws.proofs.NextRecord.{next_own}
@@ -55,17 +56,10 @@ stored_comb kind old new state asks lines next is stored same = record {
   records = records_moved kind old new state asks lines is (stored_moves old new lines stored);
   ahead_by = sym (state_from-none (state_from state asks));
   long = ap length same ∙ (is.next.long ∙ ap record_length (sym stored.head));
+  carried = λ sure. same ∙ sym (stored_moves old new lines stored).lines_are;
   none = λ nothing. stored.doubt;
   some = λ some. absurd (some refl);
 }
-
--- what is known of the record in use was written
-was_written : (part : SideView) → (known_records part).in_use ≢ None → part.written ≡ true
-was_written part known = by part.written refl
-  where
-    by : (written : Bool) → part.written ≡ written → part.written ≡ true
-    by true is = is
-    by false is = absurd (known (ap (λ (w : Bool). if_known w part.lines) is))
 
 -- the record is one of the side's next round
 next_is : (kind : Kind) (pair : PairView) (state : State) (asks : List Ask) (lines : List Line) → IsRound kind pair state asks lines → IsNextRecordOf (comb_view pair state []) (round_for pair state asks) lines
@@ -88,8 +82,9 @@ made kind old new state asks lines is stored = record {
   device = subst (λ (ops : List LogOp). Does ops old.device new.device) (sym (engine_ops kind old state asks lines is)) stored.device;
   first = ap known_records stored.first ∙ sym (ap (λ (n : ℕ). stored_on_first (comb_view old state []) n lines) side);
   second = ap known_records stored.second ∙ sym (ap (λ (n : ℕ). stored_on_second (comb_view old state []) n lines) side);
-  holds = λ known holds. if_some_mapped (λ (ls : List Line). IsHeld ls) (λ (ls : List Line). Represents ls s) (λ (ls : List Line). Represents ls (standing_of new (state_from state asks))) (after ops) old.device.now new.device.now stored.device.now
-      (held old.device.now refl (subst (IsKnown (comb_view old state [])) side known)) holds stands;
+  holds = λ used holds. if_some_mapped (λ (ls : List Line). IsHeld ls) (λ (ls : List Line). Represents ls s) (λ (ls : List Line). Represents ls (standing_of new (state_from state asks))) (after ops) old.device.now new.device.now stored.device.now
+      (held old.device.now refl (subst (IsInUse (comb_view old state [])) side used)) holds stands;
+  in_use = in_use;
 }
   where
     s : Standing
@@ -111,10 +106,16 @@ made kind old new state asks lines is stored = record {
     IsHeld : List Line → Type 0
     IsHeld image = (record_in_use image old.head 0 (round_of old 0) ≡ lines_of old 0) × (old.device.now ≡ Some image)
 
-    held : (now : Option (List Line)) → old.device.now ≡ now → IsKnown (comb_view old state []) 0 → IfSome now (λ ls. IsHeld ls)
-    held None told known = tt
-    held (Some image) told known =
-        ((is.sound.holds image told 0 (omega (arith, one_side old.head.kind (no_queue kind old state asks lines is)))).in_use (was_written old.first known), told)
+    held : (now : Option (List Line)) → old.device.now ≡ now → IfSome now (λ image. record_in_use image old.head 0 (round_of old 0) ≡ lines_of old 0) → IfSome now (λ ls. IsHeld ls)
+    held None told used = tt
+    held (Some image) told used = (used, told)
+
+    in_use : AreInUse (comb_view old state []) → AreInUse (comb_view new (state_from state asks) [])
+    in_use before zero below =
+        let here : 0 < side_count old.head.kind = omega (arith, one_side old.head.kind (no_queue kind old state asks lines is)) in
+        stored_in_use 0 lines old new 0 stored (store_next kind old state asks lines is) here (before 0 here)
+    in_use before (suc other) below =
+        absurd (omega (arith, below, ap (λ (h : Header). side_count h.kind) stored.head, one_side old.head.kind (no_queue kind old state asks lines is)))
 
     stands : (image : List Line) → IsHeld image → Represents image s → Represents (after ops image) (standing_of new (state_from state asks))
     stands image has here =
@@ -178,6 +179,7 @@ failed_comb kind old new state ahead asks asked lines next fault is failed same 
   records = records_stay old new state failed.failed.head failed.failed.first failed.failed.second is.records;
   ahead_by = moved ∙ ap (state_from state) (sym kept);
   long = ap length same ∙ (is.next.long ∙ ap record_length (sym failed.failed.head));
+  carried = λ sure. absurd (cc (ap is_sure failed.failed.known, sure));
   none = λ nothing. absurd (is.may.some (sym kept ∙ nothing));
   some = λ some. subst (HasDoubt new (standing_of new state)) (sym kept) (in_doubt kind old new state asks lines failed.called fault is failed.failed);
 }

@@ -1,5 +1,5 @@
 -- An engine over a pair that was just formatted or opened.
-use Rattle.std.proofs.Common.{◌≡◌, ◌≢◌, ℕ, zero, suc, ◌+◌, ◌-◌, ◌<◌, ◌≤◌, ◌%◌, Option, Some, None, IfSome, List, [], ◌∷◌, length, drop, replicate, refl, sym, ap, subst, ◌∙◌, inl, arith}
+use Rattle.std.proofs.Common.{◌≡◌, ◌≢◌, true, ℕ, zero, suc, ◌+◌, ◌-◌, ◌<◌, ◌≤◌, ◌%◌, Option, Some, None, IfSome, List, [], ◌∷◌, length, drop, replicate, refl, sym, ap, subst, ◌∙◌, inl, arith}
 use Rattle.std.proofs.lemmas.List.{ext_get_or, length-replicate, get_or-replicate, length-drop}
 use Rattle.pb_pmem.specs.declared.line.Line.{Line}
 use Rattle.pb_pmem.specs.declared.line.TheConstants.{LINES}
@@ -35,14 +35,16 @@ use Rattle.pb_pair.specs.View.{SideView, PairView, IsPair, round_of, lines_of}
 use Rattle.pb_pair.proofs.Told.{if_some_mapped}
 use Rattle.pb_engine.specs.Next.{KeepsBefore}
 use Rattle.pb_engine.specs.Opening.{IsFresh, IsAdopted, IsFreshRefusal}
-use Rattle.pb_engine.specs.View.{known_of}
+use Rattle.pb_engine.specs.View.{AreInUse}
+use Rattle.pb_engine.proofs.InUse.{written_in_use, opened_in_use}
 use Rattle.pb_engine.proofs.Served.{state_from-none}
 use Rattle.pb_engine.specs.Pairs.{is_sure, known_records}
 use Rattle.pb_comb.specs.View.{standing_of, comb_view, IsComb}
 use Rattle.pb_comb.proofs.Records.{one_side, parts_of_one, list_of_one, kept_is}
 use Rattle.pb_object.specs.Map.{empty_register}
 use Rattle.pb_pair.specs.declared.why.Why.{Why}
-use Rattle.pb_pair.specs.declared.why.Why.TheVariants.{Memory}
+use Rattle.pb_pair.specs.declared.why.Why.TheVariants.{Memory, Device as DeviceWhy}
+use Rattle.pb_pmem.specs.declared.device.DeviceFault.{DeviceFault}
 use Rattle.pb_pair.proofs.Safe.{nothing_done}
 
 -- Where the record in use has lines of a state
@@ -71,14 +73,15 @@ records_of pair state sound not_queue kind size lines = record {
     own (suc side) below = absurd (omega (arith, below, one))
 
 -- an engine without a request in doubt, whose copies of the object agree
-pub resting : (kind : Kind) (pair : PairView) (state ahead : State) (next : List Line) → IsPair pair → pair.head.kind ≡ kind → kind ≢ Queue → AreRecords (lines_of pair) (standing_of pair state) → ahead ≡ state → length next ≡ record_length pair.head → pair.doubt ≡ None → IsComb kind pair state ahead next []
-resting kind pair state ahead next sound kind_is not_queue records same long none = record {
+pub resting : (kind : Kind) (pair : PairView) (state ahead : State) (next : List Line) → IsPair pair → pair.head.kind ≡ kind → kind ≢ Queue → AreRecords (lines_of pair) (standing_of pair state) → ahead ≡ state → length next ≡ record_length pair.head → (is_sure pair.known ≡ true → next ≡ lines_of pair 0) → pair.doubt ≡ None → IsComb kind pair state ahead next []
+resting kind pair state ahead next sound kind_is not_queue records same long carried none = record {
   sound = sound;
   kind_is = kind_is;
   one_side = not_queue;
   records = records;
   ahead_by = same ∙ sym (state_from-none state);
   long = long;
+  carried = carried;
   none = λ nothing. none;
   some = λ some. absurd (some refl);
 }
@@ -199,9 +202,15 @@ fresh_is head pair state zeros lines old is formatted safely whole = record {
   no_region = formatted.no_region;
   holds = if_some_mapped (λ (ls : List Line). length ls ≡ LINES) (λ (ls : List Line). ¬ HasRegion ls) (λ (ls : List Line). Represents ls (empty_for head)) (after (format_ops head lines [])) old.now pair.device.now formatted.device.now whole formatted.no_region
       (λ ls long bare. formatted_stands head lines ls is.valid empty long bare);
+  in_use = in_use;
   covers = λ tale told ready. safely empty tale told ready;
 }
   where
+    in_use : AreInUse (comb_view pair state [])
+    in_use zero below = written_in_use pair 0 formatted.sound below (ap (λ (part : SideView). part.written) formatted.first_side)
+    in_use (suc other) below =
+        absurd (omega (arith, below, ap (λ (h : Header). side_count h.kind) formatted.head, one_side head.kind is.not_queue))
+
     empty : AreEmptyRecords head lines []
     empty = empty_records head state zeros lines is
 
@@ -210,14 +219,19 @@ pub fresh_refusal : (head : Header) (state : State) (zeros lines : List Line) (o
 fresh_refusal head state zeros lines old new why is refusal safely = record {
   first_lines = lines;
   second_lines = [];
+  empty = λ fault is_device. empty_records head state zeros lines is;
   refusal = refusal;
   covers = λ tale told ready. safely (empty_records head state zeros lines is) tale told ready;
 }
+
+memory_is_none : (fault : DeviceFault) → Memory ≡ DeviceWhy fault → ⊥
+memory_is_none fault is = cc (is)
 
 pub no_memory : (head : Header) (device : Device) → IsWhole device → IsReplay device → IsFreshRefusal head device device Memory
 no_memory head device whole replay = record {
   first_lines = [];
   second_lines = [];
+  empty = λ fault is_device. absurd (memory_is_none fault is_device);
   refusal = refl;
   covers = λ tale told ready. inl (nothing_done head device device tale whole replay told refl ready);
 }
@@ -321,6 +335,7 @@ pub adopted_is : (pair : PairView) (state : State) → pair.head.kind ≢ Queue 
 adopted_is pair state not_queue opened are = record {
   same = refl;
   stands = told_stands pair.device.now pair (standing_of pair state) opened.whole opened.read (λ image whole read. adopted_stands pair state image not_queue whole read are);
+  in_use = in_use;
   doubt = refl;
   sure = ap is_sure opened.known;
   first = ap known_records (opened.sound.unsure_first unsure);
@@ -329,6 +344,10 @@ adopted_is pair state not_queue opened are = record {
   where
     unsure : pair.known ≢ Sure
     unsure sure = cc (opened.known, sure)
+
+    in_use : AreInUse (comb_view pair state [])
+    in_use zero below = opened_in_use pair 0 opened below
+    in_use (suc other) below = absurd (omega (arith, below, one_side pair.head.kind not_queue))
 
 pub damaged_told : (pair : PairView) (place : ℕ) → pair.head.kind ≢ Queue → IsOpened pair.device pair → IsFirstRefused pair.head.kind pair.head.size (drop (1 + slot_count pair.head) (lines_of pair 0)) place → IfSome pair.device.now (λ image. IsDamagedAt image (record_place pair.head 0 (round_of pair 0 % 2) + 1 + slot_count pair.head + place))
 damaged_told pair place not_queue opened refused = go pair.device.now opened.read

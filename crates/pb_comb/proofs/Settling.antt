@@ -1,5 +1,5 @@
 -- Settling: with the round that failed, or without it.
-use Rattle.std.proofs.Common.{◌≡◌, ◌≢◌, ℕ, Bool, true, false, Option, Some, None, option_map, List, [], ◌∷◌, refl, sym, ap, subst, ◌∙◌, Result, Ok}
+use Rattle.std.proofs.Common.{◌≡◌, ◌≢◌, ℕ, zero, suc, ◌<◌, arith, length, Bool, true, false, Option, Some, None, option_map, List, [], ◌∷◌, refl, sym, ap, subst, ◌∙◌, Result, Ok}
 use Rattle.std.specs.Prelude.{◌==◌, ◌&&◌, if◌then◌else◌}
 use Rattle.pb_pmem.specs.declared.device.DeviceFault.{DeviceFault}
 use Rattle.pb_pmem.specs.declared.line.Line.{Line}
@@ -13,7 +13,7 @@ use Rattle.pb_object.specs.declared.kind.Kind.{Kind}
 use Rattle.pb_object.specs.declared.request.Ask.{Ask}
 use Rattle.pb_object.specs.History.{Round, after_round}
 use Rattle.pb_object.specs.Object.{State, next_state}
-use Rattle.pb_object.specs.Standing.{Standing}
+use Rattle.pb_object.specs.Standing.{Standing, side_count}
 use Rattle.pb_layout.specs.declared.header.Header.{Header}
 use Rattle.pb_layout.specs.Doubt.{IsRoundInDoubt, HasRoundLanded}
 use Rattle.pb_layout.specs.Exits.{sealed_round}
@@ -35,12 +35,13 @@ use Rattle.pb_pair.proofs.Told.{if_some_mapped}
 use Rattle.pb_engine.specs.Asks.{state_from, asked_round}
 use Rattle.pb_engine.specs.Covers.{SettleCovers as EngineSettleCovers, FailedSettleCovers as EngineFailedSettleCovers}
 use Rattle.pb_engine.specs.Outcomes.{HasSettled, HasFailedToSettle}
-use Rattle.pb_engine.specs.View.{FailedRound, EngineView, nothing_known, settled_standing, was_called as engine_called}
+use Rattle.pb_engine.specs.View.{FailedRound, EngineView, AreInUse, nothing_known, settled_standing, was_called as engine_called}
+use Rattle.pb_engine.proofs.InUse.{settled_in_use}
 use Rattle.pb_engine.proofs.Served.{served_is_legal, state_from-none, state_from-more}
 use Rattle.pb_engine.specs.Pairs.{is_sure, known_records, doubt_of}
 use Rattle.pb_comb.specs.View.{standing_of, comb_view, HasDoubt, IsComb}
 use Rattle.pb_comb.proofs.Made.{unsure, standing_stays, records_stay, some_doubt, lines_stay}
-use Rattle.pb_comb.proofs.Records.{round_for, pair_of}
+use Rattle.pb_comb.proofs.Records.{one_side, round_for, pair_of}
 use Rattle.pb_comb.proofs.Rounds.{IsRound, side_zero, HasMoved, standing_moved, records_moved}
 use Rattle.pb_object.specs.declared.kind.Kind.TheVariants.{Queue}
 use Rattle.pb_comb.proofs.Sound.{known_unsure}
@@ -87,8 +88,13 @@ found_stays kind old new state ahead next asked is uncalled settled =
       second = settled.second ∙ (not_called old.doubt 1 old.second uncalled ∙ is.is.sound.unsure_second unknown);
     }
 
-pub found_comb : (kind : Kind) (old new : PairView) (state ahead after_ahead : State) (next : List Line) (asked : List Ask) → IsUnsettled kind old state ahead next asked → was_called old.doubt ≡ false → IsSettled old new → after_ahead ≡ state → IsComb kind new state after_ahead next []
-found_comb kind old new state ahead after_ahead next asked is uncalled settled same =
+-- the lines of the record in use are as many as a record has
+followed_long : (kind : Kind) (old new : PairView) (state ahead : State) (next : List Line) (asked : List Ask) (followed : List Line) → IsComb kind old state ahead next asked → IsSettled old new → followed ≡ lines_of new 0 → length followed ≡ record_length new.head
+followed_long kind old new state ahead next asked followed is settled follows =
+    ap length follows ∙ (settled.sound.sides 0 (omega (arith, ap (λ (h : Header). side_count h.kind) settled.head, one_side old.head.kind (no_queue_of kind old state ahead next asked is)))).long
+
+pub found_comb : (kind : Kind) (old new : PairView) (state ahead after_ahead : State) (next : List Line) (asked : List Ask) (followed : List Line) → IsUnsettled kind old state ahead next asked → was_called old.doubt ≡ false → IsSettled old new → followed ≡ lines_of new 0 → after_ahead ≡ state → IsComb kind new state after_ahead followed []
+found_comb kind old new state ahead after_ahead next asked followed is uncalled settled follows same =
     let stays = found_stays kind old new state ahead next asked is uncalled settled in
     record {
       sound = settled.sound;
@@ -96,7 +102,8 @@ found_comb kind old new state ahead after_ahead next asked is uncalled settled s
       one_side = is.is.one_side;
       records = records_stay old new state stays.head stays.first stays.second is.is.records;
       ahead_by = same ∙ sym (state_from-none state);
-      long = is.is.long ∙ ap record_length (sym stays.head);
+      long = followed_long kind old new state ahead next asked followed is.is settled follows;
+      carried = λ sure. follows;
       none = λ nothing. settled.doubt;
       some = λ some. absurd (some refl);
     }
@@ -128,6 +135,7 @@ found kind old new state ahead next asked is uncalled settled = record {
   holds = λ none holds. if_some_mapped (λ (ls : List Line). Represents ls s) (λ (ls : List Line). Represents ls s) (λ (ls : List Line). Represents ls (standing_of new state)) (after (settle_to (header_for s) s)) old.device.now new.device.now
       (subst (λ (to : List LogOp). new.device.now ≡ option_map (after to) old.device.now) (settles_found old s (pair_of old state is.is.sound not_queue) uncalled) settled.device.now) holds holds
       (λ image here _. subst (Represents (after (settle_to (header_for s) s) image)) (sym same) (settled_stands image s here));
+  in_use = λ none. in_use;
 }
   where
     s : Standing
@@ -147,6 +155,13 @@ found kind old new state ahead next asked is uncalled settled = record {
 
     ops : settled_ops old ≡ settle_to (header_for (standing_of new state)) (standing_of new state)
     ops = settles_found old s (pair_of old state is.is.sound not_queue) uncalled ∙ ap (λ (t : Standing). settle_to (header_for t) t) (sym same)
+
+    in_use : AreInUse (comb_view old state asked) → AreInUse (comb_view new state [])
+    in_use before zero below =
+        let here : 0 < side_count old.head.kind = omega (arith, one_side old.head.kind not_queue) in
+        settled_in_use old new 0 settled stays.first here (before 0 here)
+    in_use before (suc other) below =
+        absurd (omega (arith, below, ap (λ (h : Header). side_count h.kind) stays.head, one_side old.head.kind not_queue))
 
 -- Where one was called
 
@@ -178,8 +193,8 @@ decided_moves old new s asked doubt called settled = record {
     second : new.second ≡ settled_by false doubt.doubt.lines old.second
     second = settled.second ∙ (ap (λ (d : Option DoubtView). settled_side d 1 old.second) doubt.is ∙ (λ i. settled_by (was i && there i) doubt.doubt.lines old.second))
 
-pub decided_comb : (kind : Kind) (old new : PairView) (state ahead after_state : State) (next : List Line) (asked : List Ask) → IsUnsettled kind old state ahead next asked → was_called old.doubt ≡ true → IsSettled old new → after_state ≡ ahead → IsComb kind new after_state ahead next []
-decided_comb kind old new state ahead after_state next asked is called settled same =
+pub decided_comb : (kind : Kind) (old new : PairView) (state ahead after_state : State) (next : List Line) (asked : List Ask) (followed : List Line) → IsUnsettled kind old state ahead next asked → was_called old.doubt ≡ true → IsSettled old new → followed ≡ lines_of new 0 → after_state ≡ ahead → IsComb kind new after_state ahead followed []
+decided_comb kind old new state ahead after_state next asked followed is called settled follows same =
     let doubt = is.is.some (called_some kind old state ahead next asked is.is called) in
     let round = doubted kind old state ahead next asked is.is doubt in
     let moves = decided_moves old new (standing_of old state) asked doubt called settled in
@@ -189,7 +204,8 @@ decided_comb kind old new state ahead after_state next asked is called settled s
       one_side = is.is.one_side;
       records = subst (λ (st : State). AreRecords (lines_of new) (standing_of new st)) (sym (same ∙ is.is.ahead_by)) (records_moved kind old new state asked doubt.doubt.lines round moves);
       ahead_by = sym same ∙ sym (state_from-none after_state);
-      long = is.is.long ∙ ap record_length (sym settled.head);
+      long = followed_long kind old new state ahead next asked followed is.is settled follows;
+      carried = λ sure. follows;
       none = λ nothing. settled.doubt;
       some = λ some. absurd (some refl);
     }
@@ -215,6 +231,7 @@ decided kind old new state ahead after_state next asked is called settled same =
   first = ap known_records settled.first ∙ forgets 0 old.first (is.is.sound.unsure_first unknown);
   second = ap known_records settled.second ∙ forgets 1 old.second (is.is.sound.unsure_second unknown);
   holds = λ none holds. absurd (none_called none);
+  in_use = λ none before. absurd (none_called none);
 }
   where
     s : Standing
@@ -329,6 +346,7 @@ unsettled_comb kind old new state ahead next asked fault is failed = record {
   records = records_stay old new state failed.head failed.first failed.second is.records;
   ahead_by = is.ahead_by;
   long = is.long ∙ ap record_length (sym failed.head);
+  carried = λ sure. absurd (cc (ap is_sure failed.known, sure));
   none = λ nothing. failed.doubt ∙ is.none nothing;
   some = λ some. still_in_doubt old new fault (standing_of old state) (standing_of new state) asked failed (standing_stays old new state failed.head failed.first) (is.some some);
 }
@@ -375,27 +393,27 @@ unsettled_safely kind old new state ahead next asked is safely = record {
 
 -- Both together
 
-settled_fields : (kind : Kind) (old new : PairView) (state ahead state_after ahead_after : State) (next : List Line) (asked : List Ask) (called recorded : Bool) → was_called old.doubt ≡ called → recorded ≡ called → IsUnsettled kind old state ahead next asked → IsSettled old new
-    → state_after ≡ (if recorded then ahead else state) → ahead_after ≡ (if recorded then ahead else state) → IsComb kind new state_after ahead_after next [] × HasSettled (comb_view old state asked) (comb_view new state_after [])
-settled_fields kind old new state ahead state_after ahead_after next asked true recorded was is unsettled settled first second =
+settled_fields : (kind : Kind) (old new : PairView) (state ahead state_after ahead_after : State) (next : List Line) (asked : List Ask) (followed : List Line) (called recorded : Bool) → was_called old.doubt ≡ called → recorded ≡ called → IsUnsettled kind old state ahead next asked → IsSettled old new → followed ≡ lines_of new 0
+    → state_after ≡ (if recorded then ahead else state) → ahead_after ≡ (if recorded then ahead else state) → IsComb kind new state_after ahead_after followed [] × HasSettled (comb_view old state asked) (comb_view new state_after [])
+settled_fields kind old new state ahead state_after ahead_after next asked followed true recorded was is unsettled settled follows first second =
     let here : state_after ≡ ahead = first ∙ ap (λ (b : Bool). if b then ahead else state) is in
     let there : ahead_after ≡ ahead = second ∙ ap (λ (b : Bool). if b then ahead else state) is in (
-      subst (λ (a : State). IsComb kind new state_after a next []) (sym there) (decided_comb kind old new state ahead state_after next asked unsettled was settled here),
+      subst (λ (a : State). IsComb kind new state_after a followed []) (sym there) (decided_comb kind old new state ahead state_after next asked followed unsettled was settled follows here),
       decided kind old new state ahead state_after next asked unsettled was settled here,
     )
-settled_fields kind old new state ahead state_after ahead_after next asked false recorded was is unsettled settled first second =
+settled_fields kind old new state ahead state_after ahead_after next asked followed false recorded was is unsettled settled follows first second =
     let here : state_after ≡ state = first ∙ ap (λ (b : Bool). if b then ahead else state) is in
     let there : ahead_after ≡ state = second ∙ ap (λ (b : Bool). if b then ahead else state) is in (
-      subst (λ (st : State). IsComb kind new st ahead_after next []) (sym here) (found_comb kind old new state ahead ahead_after next asked unsettled was settled there),
+      subst (λ (st : State). IsComb kind new st ahead_after followed []) (sym here) (found_comb kind old new state ahead ahead_after next asked followed unsettled was settled follows there),
       subst (λ (st : State). HasSettled (comb_view old state asked) (comb_view new st [])) (sym here) (found kind old new state ahead next asked unsettled was settled),
     )
 
 -- what the fields come to, whose pair was settled
-pub settled_both : (kind : Kind) (old new : PairView) (state ahead state_after ahead_after : State) (next : List Line) (asked rest : List Ask) (recorded : Bool) → recorded ≡ was_called old.doubt → IsUnsettled kind old state ahead next asked → IsSettled old new
-    → state_after ≡ (if recorded then ahead else state) → ahead_after ≡ (if recorded then ahead else state) → rest ≡ [] → IsComb kind new state_after ahead_after next rest × HasSettled (comb_view old state asked) (comb_view new state_after rest)
-settled_both kind old new state ahead state_after ahead_after next asked rest recorded is unsettled settled first second none =
-    subst (λ (asks : List Ask). IsComb kind new state_after ahead_after next asks × HasSettled (comb_view old state asked) (comb_view new state_after asks)) (sym none)
-    (settled_fields kind old new state ahead state_after ahead_after next asked (was_called old.doubt) recorded refl is unsettled settled first second)
+pub settled_both : (kind : Kind) (old new : PairView) (state ahead state_after ahead_after : State) (next : List Line) (asked rest : List Ask) (followed : List Line) (recorded : Bool) → recorded ≡ was_called old.doubt → IsUnsettled kind old state ahead next asked → IsSettled old new → followed ≡ lines_of new 0
+    → state_after ≡ (if recorded then ahead else state) → ahead_after ≡ (if recorded then ahead else state) → rest ≡ [] → IsComb kind new state_after ahead_after followed rest × HasSettled (comb_view old state asked) (comb_view new state_after rest)
+settled_both kind old new state ahead state_after ahead_after next asked rest followed recorded is unsettled settled follows first second none =
+    subst (λ (asks : List Ask). IsComb kind new state_after ahead_after followed asks × HasSettled (comb_view old state asked) (comb_view new state_after asks)) (sym none)
+    (settled_fields kind old new state ahead state_after ahead_after next asked followed (was_called old.doubt) recorded refl is unsettled settled follows first second)
 
 -- requests keep an object's size
 pub size_from : (asks : List Ask) (state : State) → size_of (state_from state asks) ≡ size_of state

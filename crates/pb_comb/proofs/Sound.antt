@@ -20,13 +20,13 @@ use Rattle.pb_pair.specs.declared.known.Known.{Known}
 use Rattle.pb_pair.specs.declared.known.Known.TheVariants.{Sure, Opened, Failed}
 use Rattle.pb_pair.specs.Settle.{was_called}
 use Rattle.pb_pair.specs.View.{PairView, lines_of}
-use Rattle.pb_engine.specs.View.{FailedRound, IsEngine, HoldsKnown, known_of}
+use Rattle.pb_engine.specs.View.{FailedRound, IsEngine, HoldsKnown, known_of, record_in_memory}
 use Rattle.pb_engine.proofs.Served.{served_is_legal}
 use Rattle.pb_engine.specs.Pairs.{is_sure, doubt_of}
 use Rattle.pb_comb.specs.View.{standing_of, comb_view, HasDoubt, IsComb}
 use Rattle.pb_comb.proofs.Records.{one_side, kept_is}
 use Rattle.std.proofs.lemmas.Bool.{cases_eq}
-use Rattle.pb_engine.proofs.Known.{known_holds}
+use Rattle.pb_engine.proofs.Known.{known_holds, known_in_memory}
 
 -- a sure engine has no request in doubt
 pub none_in_doubt : (kind : Kind) (pair : PairView) (state ahead : State) (next : List Line) (asked : List Ask) → IsComb kind pair state ahead next asked → is_sure pair.known ≡ true → asked ≡ []
@@ -56,8 +56,13 @@ engine_of kind pair state ahead next asked is = record {
   decided = λ sure. ap (λ (asks : List Ask). doubt_of (standing_of pair state) asks (was_called pair.doubt)) (none_in_doubt kind pair state ahead next asked is sure);
   legal = legal asked is.some;
   records = records;
+  in_memory = in_memory;
 }
   where
+    in_memory : (side : ℕ) → side < side_count kind → (lines : List Line) → (known_of (comb_view pair state asked) side).in_use ≡ Some lines → record_in_memory (comb_view pair state asked) side ≡ lines
+    in_memory zero below lines known = known_in_memory pair.first lines known
+    in_memory (suc side) below lines known = known_in_memory pair.second lines known
+
     records : (image : List Line) → pair.device.now ≡ Some image → (side : ℕ) → side < side_count kind → HoldsKnown pair.head side (rounds_of (standing_of pair state) side) (known_of (comb_view pair state asked) side) image
     records image now zero below =
         known_holds pair.head 0 pair.first image (is.sound.holds image now 0 (omega (arith, below, ap side_count is.kind_is)))

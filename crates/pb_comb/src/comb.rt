@@ -25,6 +25,7 @@ pub struct Comb<O: Object, P: Pmem> {
     // The object as it is known for sure, and a copy that is ahead by the requests of a round that failed.
     object: O,
     ahead: O,
+    // The lines of the record in use, where the engine is sure: the next round changes them in place.
     next: NextRecord,
     // The requests of the round that failed.
     asked: ArrayVec<Ask, 16>,
@@ -214,14 +215,14 @@ impl<O: Object, P: Pmem> Engine for Comb<O, P> {
 
     fn round(&mut self, asks: &ArrayVec<Ask, 16>) -> Result<(), DeviceFault> {
         let round = self.pair.round(0) + 1;
-        self.next.begin(self.pair.lines_of(0), round);
+        self.next.carry(round);
         serve(
             asks.as_slice(),
             self.pair.lines_of(0),
             &mut self.ahead,
             &mut self.next,
         );
-        self.next.put_object(&self.ahead);
+        self.next.put_changes(asks.as_slice(), &self.ahead);
         match self.pair.store(0, self.next.lines()) {
             Ok(()) => {
                 catch_up(asks.as_slice(), &mut self.object);
@@ -238,6 +239,7 @@ impl<O: Object, P: Pmem> Engine for Comb<O, P> {
     fn settle(&mut self) -> Result<bool, DeviceFault> {
         let recorded = self.pair.settle()?;
         agree(recorded, &mut self.object, &mut self.ahead);
+        self.next.follow(self.pair.lines_of(0));
         self.asked.clear();
         Ok(recorded)
     }

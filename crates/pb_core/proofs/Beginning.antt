@@ -17,7 +17,7 @@ use Rattle.pb_core.specs.Client.{is_idle, is_announced, Client, ask_word, entry_
 use Rattle.pb_core.specs.HolderMoves.{entries_by, round_by}
 use Rattle.pb_core.specs.Laws.{AreDue}
 use Rattle.pb_core.specs.Memory.{Owner, side_of}
-use Rattle.pb_core.specs.MemoryParts.{IsClient, IsAsking, HasEntries, IsSeen, AreSeen, entries_with}
+use Rattle.pb_core.specs.MemoryParts.{IsClient, IsAsking, IsServed, entries_ahead, HasEntries, IsSeen, AreSeen, entries_with}
 use Rattle.pb_core.proofs.Asking.{quiet_low}
 use Rattle.pb_core.proofs.Stages.{announced_busy, announced_words}
 
@@ -174,12 +174,9 @@ begins_entries round reply announced lacks one (inl clear) =
 begins_entries round reply announced lacks one (inr (inl coming)) = absurd (absurd_one coming.one)
 begins_entries round reply announced lacks one (inr (inr served)) = absurd (lacks (ap (λ (l : List Kept). (newest l).number) served.kept))
 
--- those of a client that the round has none of
-begins_without : {c : ℕ} {published : History} {list : List Kept} {b : Client} (round : Round) → entries_with c round.entries ≡ [] → HasEntries c published None list b → HasEntries c published (Some round) list b
-begins_without round none (inl clear) =
-    inl (record { told = clear.told; none = none; kept = clear.kept })
-begins_without round none (inr (inl coming)) = absurd (absurd_one coming.one)
-begins_without round none (inr (inr served)) = inr (inr (record {
+-- an open request that is published stays so, whatever is ahead of others
+pub served_still : {c : ℕ} {published : History} {ahead : Option Round} {list : List Kept} {b : Client} (other : Option Round) → entries_ahead c other ≡ [] → IsServed c published ahead list b → IsServed c published other list b
+served_still other none served = record {
   reply = served.reply;
   announced = served.announced;
   waiting = served.waiting;
@@ -187,7 +184,14 @@ begins_without round none (inr (inr served)) = inr (inr (record {
   none = none;
   kept = served.kept;
   dated = served.dated;
-}))
+}
+
+-- those of a client that the round has none of
+begins_without : {c : ℕ} {published : History} {list : List Kept} {b : Client} (round : Round) → entries_with c round.entries ≡ [] → HasEntries c published None list b → HasEntries c published (Some round) list b
+begins_without round none (inl clear) =
+    inl (record { told = clear.told; none = none; kept = clear.kept })
+begins_without round none (inr (inl coming)) = absurd (absurd_one coming.one)
+begins_without round none (inr (inr served)) = inr (inr (served_still (Some round) none served))
 
 -- a client when the round begins
 pub begins_client : {kind : Kind} {published : History} {owner : Owner} {c : ℕ} {b : Client} (s : Standing) (side : ℕ) (requests : ℕ → ℕ → ℕ) (high : ℕ) (seen : List Ask) → IsClient kind (kept_list_of s c) published None owner (requests c) c b → AreSeen s side requests 0 high seen → IsClient kind (kept_list_of s c) published (Some (round_by side s seen)) owner (requests c) c b

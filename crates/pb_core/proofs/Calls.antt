@@ -16,13 +16,8 @@ use Rattle.pb_core.specs.DeviceParts.{with_log, IsSteady, IsWriting, IsInDoubtAf
 use Rattle.pb_core.specs.Memory.{with_round, coming}
 use Rattle.pb_core.specs.World.{IsRoundPlan}
 use Rattle.pb_core.specs.WorldMoves.{failed, last_calls}
-use Rattle.pb_core.proofs.Devices.{first_calls, plan_cut, steady_holds, steady_quiet, steady_sealed, failed_prefix, begun_prefix, staging_leaves, committing_leaves, committing_seals}
+use Rattle.pb_core.proofs.Devices.{steady_at, first_calls, plan_cut, steady_holds, steady_quiet, steady_sealed, failed_prefix, begun_prefix, staging_leaves, committing_leaves, committing_seals}
 use Rattle.pb_core.proofs.Lists.{IsBefore, two_cuts}
-
--- a device whose log is named in another way
-steady_log : {tale : Tale} {s : Standing} {rounds : History} (log : List LogOp) → log ≡ tale.log → IsSteady (with_log tale log) s rounds → IsSteady tale s rounds
-steady_log {tale} {s} {rounds} log same steady =
-    subst (λ (l : List LogOp). IsSteady (with_log tale l) s rounds) same steady
 
 doubt_log : {tale : Tale} {s : Standing} {rounds : History} {round : Round} (log : List LogOp) → log ≡ tale.log → IsInDoubtAfter (with_log tale log) s rounds round → IsInDoubtAfter tale s rounds round
 doubt_log {tale} {s} {rounds} {round} log same doubt =
@@ -42,16 +37,16 @@ writing_reached {tale} {s} {rounds} {ahead} {entry} {made} {left} writing =
   where
     go : (left : List LogOp) (planned : IsRoundPlan (with_log tale entry) (state_after s rounds) writing.round (made ++ left)) → IsBefore made left (first_calls planned) (last_calls (state_after s rounds) writing.round) ⊎ IsBefore (first_calls planned) (last_calls (state_after s rounds) writing.round) made left → HasReached tale s rounds writing.round
     go left planned (inl cut) =
-        before_it (steady_log (entry ++ made) (sym writing.log) (staging_leaves made writing.begun planned (inr (cut.more, cut.first))))
+        before_it (steady_at (entry ++ made) (sym writing.log) (staging_leaves made writing.begun planned (inr (cut.more, cut.first))))
     go [] planned (inr cut) =
-        behind_it (steady_log (entry ++ made) (sym writing.log) (subst (λ (ops : List LogOp). IsSteady (with_log tale (entry ++ ops)) s (rounds ++ writing.round ∷ [])) (append-nil made) (committing_seals writing.begun planned)))
+        behind_it (steady_at (entry ++ made) (sym writing.log) (subst (λ (ops : List LogOp). IsSteady (with_log tale (entry ++ ops)) s (rounds ++ writing.round ∷ [])) (append-nil made) (committing_seals writing.begun planned)))
     go (op ∷ rest) planned (inr cut) =
         in_doubt (doubt_log (entry ++ made) (sym writing.log) (subst (λ (ops : List LogOp). IsInDoubtAfter (with_log tale (entry ++ ops)) s rounds writing.round) (sym cut.first) (committing_leaves cut.more writing.begun planned (begun_prefix (last_calls (state_after s rounds) writing.round) cut.more op rest cut.rest))))
 
 -- all its calls are made
 pub writing_ends : {tale : Tale} {s : Standing} {rounds : History} {ahead : Option Round} {entry made : List LogOp} → IsWriting tale s rounds ahead entry made [] → IsSteady tale s (rounds ++ coming ahead)
 writing_ends {tale} {s} {rounds} {ahead} {entry} {made} writing =
-    subst (λ (a : Option Round). IsSteady tale s (rounds ++ coming a)) (sym writing.ahead_is) (steady_log (entry ++ made) (sym writing.log) (subst (λ (ops : List LogOp). IsSteady (with_log tale (entry ++ ops)) s (rounds ++ writing.round ∷ [])) (append-nil made) (committing_seals writing.begun writing.planned)))
+    subst (λ (a : Option Round). IsSteady tale s (rounds ++ coming a)) (sym writing.ahead_is) (steady_at (entry ++ made) (sym writing.log) (subst (λ (ops : List LogOp). IsSteady (with_log tale (entry ++ ops)) s (rounds ++ writing.round ∷ [])) (append-nil made) (committing_seals writing.begun writing.planned)))
 
 -- the log after a failing call
 failed_log : (tale : Tale) (entry made : List LogOp) (how : How) (op : LogOp) → tale.log ≡ entry ++ made → entry ++ (made ++ option_to_list (left_by how op)) ≡ (failed how op tale).log
@@ -61,7 +56,7 @@ failed_log tale entry made how op log =
 -- one fails before its index word
 pub staging_fails : {tale : Tale} {s : Standing} {rounds : History} {ahead : Option Round} {entry made : List LogOp} (how : How) (op : LogOp) (more : List LogOp) (round : Round) → ahead ≡ Some round → IsWriting tale s rounds ahead entry made (op ∷ (more ++ last_calls (state_after s rounds) round)) → IsSteady (failed how op tale) s rounds
 staging_fails {tale} {s} {rounds} {ahead} {entry} {made} how op more round same writing =
-    steady_log (entry ++ (made ++ option_to_list (left_by how op))) (failed_log tale entry made how op writing.log) (staging_leaves (made ++ option_to_list (left_by how op)) writing.begun writing.planned (inl (failed_prefix how (first_calls writing.planned) made op more whole)))
+    steady_at (entry ++ (made ++ option_to_list (left_by how op))) (failed_log tale entry made how op writing.log) (staging_leaves (made ++ option_to_list (left_by how op)) writing.begun writing.planned (inl (failed_prefix how (first_calls writing.planned) made op more whole)))
   where
     its : writing.round ≡ round
     its = cc (writing.ahead_is, same)
@@ -112,7 +107,7 @@ settles_doubt {tale} {s} {rounds} {round} ops doubt cut = record {
 settles_round : {tale : Tale} {s : Standing} {rounds : History} {round : Round} → IsInDoubtAfter tale s rounds round → IsSteady (with_ops (settle_to (header_for (state_after s rounds)) (after_round (state_after s rounds) round)) tale) s (rounds ++ round ∷ [])
 settles_round {tale} {s} {rounds} {round} doubt =
     let settle = settle_to (header_for (state_after s rounds)) (after_round (state_after s rounds) round) in
-    steady_log (doubt.entry ++ (doubt.made ++ settle)) (sym (append_assoc doubt.entry doubt.made settle) ∙ ap (λ (l : List LogOp). l ++ settle) (sym doubt.log)) (steady_sealed doubt.begun (settling_after doubt.doubt))
+    steady_at (doubt.entry ++ (doubt.made ++ settle)) (sym (append_assoc doubt.entry doubt.made settle) ∙ ap (λ (l : List LogOp). l ++ settle) (sym doubt.log)) (steady_sealed doubt.begun (settling_after doubt.doubt))
 
 -- what is in doubt after some calls of settling
 unsettled_after : (tale : Tale) (s : Standing) (rounds : History) (ahead : Option Round) (ops : List LogOp) → IsUnsettled tale s rounds ahead → IsFailedPrefix (settle_to (header_for (state_after s rounds)) (with_round ahead (state_after s rounds))) ops → IsUnsettled (with_ops ops tale) s rounds ahead
@@ -135,14 +130,14 @@ settling_reached {tale} {s} {rounds} {ahead} {entry} {made} {left} settling = go
   where
     go : (left : List LogOp) → made ++ left ≡ settle_to (header_for (state_after s rounds)) (with_round ahead (state_after s rounds)) → IsUnsettled tale s rounds ahead ⊎ IsSteady tale s (rounds ++ coming ahead)
     go [] planned =
-        inr (steady_log (entry ++ made) (sym settling.log) (subst (λ (ops : List LogOp). IsSteady (with_log tale (entry ++ ops)) s (rounds ++ coming ahead)) (sym planned ∙ append-nil made) (settled_after (with_log tale entry) s rounds ahead settling.begun)))
+        inr (steady_at (entry ++ made) (sym settling.log) (subst (λ (ops : List LogOp). IsSteady (with_log tale (entry ++ ops)) s (rounds ++ coming ahead)) (sym planned ∙ append-nil made) (settled_after (with_log tale entry) s rounds ahead settling.begun)))
     go (op ∷ rest) planned =
         inl (unsettled_log tale s rounds ahead (entry ++ made) (sym settling.log) (unsettled_after (with_log tale entry) s rounds ahead made settling.begun (begun_prefix (settle_to (header_for (state_after s rounds)) (with_round ahead (state_after s rounds))) made op rest (sym planned))))
 
 -- all its calls are made
 pub settling_ends : {tale : Tale} {s : Standing} {rounds : History} {ahead : Option Round} {entry made : List LogOp} → IsSettling tale s rounds ahead entry made [] → IsSteady tale s (rounds ++ coming ahead)
 settling_ends {tale} {s} {rounds} {ahead} {entry} {made} settling =
-    steady_log (entry ++ made) (sym settling.log) (subst (λ (ops : List LogOp). IsSteady (with_log tale (entry ++ ops)) s (rounds ++ coming ahead)) (sym settling.planned ∙ append-nil made) (settled_after (with_log tale entry) s rounds ahead settling.begun))
+    steady_at (entry ++ made) (sym settling.log) (subst (λ (ops : List LogOp). IsSteady (with_log tale (entry ++ ops)) s (rounds ++ coming ahead)) (sym settling.planned ∙ append-nil made) (settled_after (with_log tale entry) s rounds ahead settling.begun))
 
 -- one of them fails
 pub settling_fails : {tale : Tale} {s : Standing} {rounds : History} {ahead : Option Round} {entry made left : List LogOp} (how : How) (op : LogOp) → IsSettling tale s rounds ahead entry made (op ∷ left) → IsUnsettled (failed how op tale) s rounds ahead

@@ -97,16 +97,18 @@ may_fail {w} {c} {how} possible =
 
 -- Calls that may fail do
 
--- a call of settling
-fails_settling : {w : World} (middle : World) {c side : ℕ} (how : How) (count : ℕ) (entry made : List LogOp) (op : LogOp) (left : List LogOp) → Silents count w middle → c < clients_of middle.memory → middle.memory.owner ≡ Held c side → middle.memory.work ≡ Settling → middle.progress ≡ InCall entry made (op ∷ left) → IsPossible w (Fail c how)
-fails_settling {w} middle {c} {side} how count entry made op left silents there holds at going = record {
+-- behind moves that nobody sees a call fails: of the memory this is next
+fails_behind : {w : World} {c : ℕ} {how : How} (op : LogOp) (middle : World) (count : ℕ) → Silents count w middle → (next : Memory) → Moves middle (Fail c how) (record { memory = next; tale = failed how op middle.tale; progress = NoCall }) Went → IsPossible w (Fail c how)
+fails_behind {w} {c} {how} op middle count silents next move = record {
   new = record { memory = next; tale = failed how op middle.tale; progress = NoCall };
   answer = Went;
-  next = record {
-    silent = count;
-    middle = middle;
-    silents = silents;
-    move = inl (record {
+  next = record { silent = count; middle = middle; silents = silents; move = move };
+}
+
+-- a call of settling
+fails_settling : {w : World} (middle : World) {c side : ℕ} (how : How) (count : ℕ) (entry made : List LogOp) (op : LogOp) (left : List LogOp) → Silents count w middle → c < clients_of middle.memory → middle.memory.owner ≡ Held c side → middle.memory.work ≡ Settling → middle.progress ≡ InCall entry made (op ∷ left) → IsPossible w (Fail c how)
+fails_settling {w} middle {c} {side} how count entry made op left silents there holds at going =
+    fails_behind op middle count silents next (inl (record {
       there = there;
       next = next;
       move = record { side = side; holds = holds; to = middle.memory.count + 1; at = at; rose = inl (omega arith); is = refl };
@@ -117,9 +119,7 @@ fails_settling {w} middle {c} {side} how count entry made op left silents there 
       at = going;
       is = refl;
       says = refl;
-    });
-  };
-}
+    }))
   where
     next : Memory
     next = record (middle.memory) { count = middle.memory.count + 1; work = Noting middle.memory.count (middle.memory.count + 1) }
@@ -148,14 +148,8 @@ fails_calling {w} middle {c} {side} how count entry made op left silents is ther
     doubted = record m { count = m.count + 1; work = Noting m.count (m.count + 1); engine = Doubtful }
 
     stages : (more : List LogOp) → left ≡ more ++ last → IsPossible w (Fail c how)
-    stages more rest = record {
-      new = record { memory = dropped; tale = failed how op middle.tale; progress = NoCall };
-      answer = Went;
-      next = record {
-        silent = count;
-        middle = middle;
-        silents = silents;
-        move = inr (inl (record {
+    stages more rest =
+        fails_behind op middle count silents dropped (inr (inl (record {
           there = there;
           next = dropped;
           move = record { side = side; holds = holds; to = m.count + 1; at = at; rose = inl (omega arith); is = refl };
@@ -168,19 +162,11 @@ fails_calling {w} middle {c} {side} how count entry made op left silents is ther
           at = going ∙ ap (λ (l : List LogOp). InCall entry made (op ∷ l)) (rest ∙ ap (λ (l : List LogOp). more ++ l) as_shown);
           is = refl;
           says = refl;
-        }));
-      };
-    }
+        })))
 
     commits : (before : List LogOp) → last ≡ before ++ op ∷ left → IsPossible w (Fail c how)
-    commits before whole = record {
-      new = record { memory = doubted; tale = failed how op middle.tale; progress = NoCall };
-      answer = Went;
-      next = record {
-        silent = count;
-        middle = middle;
-        silents = silents;
-        move = inr (inr (record {
+    commits before whole =
+        fails_behind op middle count silents doubted (inr (inr (record {
           there = there;
           next = doubted;
           move = record { side = side; holds = holds; to = m.count + 1; at = at; rose = inl (omega arith); is = refl };
@@ -195,9 +181,7 @@ fails_calling {w} middle {c} {side} how count entry made op left silents is ther
           last = sym as_shown ∙ whole;
           is = refl;
           says = refl;
-        }));
-      };
-    }
+        })))
 
     before_last : (more : List LogOp) → op ∷ left ≡ more ++ last → IsPossible w (Fail c how)
     before_last [] rest = commits [] (sym rest)

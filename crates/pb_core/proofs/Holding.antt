@@ -13,7 +13,7 @@ use Rattle.pb_core.specs.HolderMoves.{round_by, Begins, Records, SettlesNone, Se
 use Rattle.pb_core.specs.Laws.{AreDue}
 use Rattle.pb_core.specs.Memory.{Owner, Held, AtNumber, Work, Settling, Scanning, Calling, Filling, Noting, Engine, Resting, Recorded, Writing, Doubtful, Memory, shown, known}
 use Rattle.pb_core.specs.MemoryParts.{IsClient, HasEntries, IsAsking, AreSeen, Meets, IsScan, HasScan, IsMemory, SuitsWork, Suits, HasCause, HasFilled}
-use Rattle.pb_core.proofs.Beginning.{IsOpen, seen_open, due-round, of_side, begins_client}
+use Rattle.pb_core.proofs.Beginning.{IsOpen, seen_open, due-round, of_side, served_still, begins_client}
 use Rattle.pb_core.proofs.Histories.{HasShape, shape_after}
 use Rattle.pb_core.proofs.Scans.{the_scan, known_shown, meets_some}
 use Rattle.pb_core.proofs.Turns.{work_suits}
@@ -153,15 +153,7 @@ keeps-failing_after {old} {new} {c} is move =
 drops_entries : {c : ℕ} {published : History} {ahead : Option Round} {list : List Kept} {b : Client} → HasEntries c published ahead list b → HasEntries c published None list b
 drops_entries (inl clear) = inl (record { told = clear.told; none = refl; kept = clear.kept })
 drops_entries (inr (inl coming)) = inl (record { told = coming.told; none = refl; kept = coming.kept })
-drops_entries (inr (inr served)) = inr (inr (record {
-  reply = served.reply;
-  announced = served.announced;
-  waiting = served.waiting;
-  told = served.told;
-  none = refl;
-  kept = served.kept;
-  dated = served.dated;
-}))
+drops_entries (inr (inr served)) = inr (inr (served_still None refl served))
 
 drops_client : {kind : Kind} {list : List Kept} {published : History} {ahead : Option Round} {owner : Owner} {words : ℕ → ℕ} {c : ℕ} {b : Client} → IsClient kind list published ahead owner words c b → IsClient kind list published None owner words c b
 drops_client is = record {

@@ -7,9 +7,9 @@ use Rattle.pb_core.specs.HolderMoves.{HolderMove}
 use Rattle.pb_core.specs.Memory.{Free, Resting, Memory, clients_of, opened}
 use Rattle.pb_core.specs.WordMoves.{Asks, IsWordStep}
 
--- memory over a device that is known for sure to hold this standing: nothing was asked since
-abbrev pub begun : Standing → Memory
-begun s = record (opened s [] []) { owner = Free; engine = Resting }
+-- memory over a device that is known for sure to hold this standing, and whose calls failed so often before: nothing was asked since
+abbrev pub begun : Standing → ℕ → Memory
+begun s count = record (opened s [] []) { owner = Free; engine = Resting; count = count }
 
 -- a client asks, or steps on a word; or a call of the holder answers
 pub data MemoryMove (old new : Memory) : Type 0 where

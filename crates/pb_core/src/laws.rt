@@ -28,9 +28,9 @@ pub fn each_event_keeps_it()
         → IsWorld new }
 {}
 
-/// The parts that speak of memory alone hold over any standing that a device is known to hold ..
+/// The parts that speak of memory alone hold over any standing that a device is known to hold, however often its calls failed before ..
 pub fn memory_begins_well()
-    ensures { (s : Standing) → length s.kept ≡ s.clients → IsMemory (begun s) }
+    ensures { (s : Standing) (count : ℕ) → length s.kept ≡ s.clients → IsMemory (begun s count) }
 {}
 
 /// .. and are kept by each request, each step on a word and each answer of the device to its holder, whatever the device is.

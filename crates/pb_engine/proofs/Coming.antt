@@ -30,7 +30,7 @@ use Rattle.pb_engine.specs.Covers.{RoundCovers, FailedRoundCovers, SettleCovers,
 use Rattle.pb_engine.specs.Good.{BeginsAt, IsInDoubtAfter, IsDecidedAfter, settlings, HasCost, IsQuiet, HasCome, with_doubt, settled_rounds}
 use Rattle.pb_engine.specs.Operations.{round_ops}
 use Rattle.pb_engine.specs.Outcomes.{stored_over, stored_on_first, stored_on_second, HasMade, HasFailedToMake, HasSettled, HasFailedToSettle}
-use Rattle.pb_engine.specs.View.{FailedRound, EngineView, was_called, settled_by, settled_standing, KnownRecords, IsKnown, AreKnown}
+use Rattle.pb_engine.specs.View.{FailedRound, EngineView, was_called, settled_by, settled_standing, KnownRecords, IsKnown, AreKnown, IsHeld}
 use Rattle.pb_engine.proofs.Costs.{fences-append, syncs-append, round_fences, round_syncs, settling_fences, settling_syncs}
 use Rattle.pb_pmem.specs.declared.line.Line.{Line}
 
@@ -66,12 +66,14 @@ decided_at_start tale members start false is begins = inr (
   },
 )
 
-pub at_start : (start : EngineView) → HasCome start start []
+pub at_start : (start : EngineView) → HasCome start start [] 0
 at_start start = record {
   legal = tt;
   standing = refl;
   count = omega arith;
-  quiet = λ calm. record { sure = λ sure. sure; doubt = λ none. none; known = λ sure known. known; holds = λ sure known holds. holds };
+  calm = λ none. refl;
+  rose = λ some. absurd (some refl);
+  quiet = λ calm. record { sure = λ sure. sure; doubt = λ none. none; known = λ sure known. known; holds = λ none held. held };
   covered = λ tale members begins. record {
     decided = λ uncalled. decided_at_start tale members start start.sure refl begins;
     in_doubt = λ failed is called. absurd (cc (begins.decided, is));
@@ -105,8 +107,8 @@ sure_is_sealed : (tale : Tale) (members : List (Option Standing)) (old : EngineV
 sure_is_sealed tale members old s rounds sure (inl after) = after
 sure_is_sealed tale members old s rounds sure (inr found) = absurd (cc (sure, found.0))
 
-sealed_so_far : (tale : Tale) (members : List (Option Standing)) (start old : EngineView) (rounds : History) → HasCome start old rounds → old.sure ≡ true → old.doubt ≡ None → BeginsAt tale members start → IsSealedAfter tale old.device start.standing rounds
-sealed_so_far tale members start old rounds come sure none begins =
+sealed_so_far : (tale : Tale) (members : List (Option Standing)) (start old : EngineView) (rounds : History) (failures : ℕ) → HasCome start old rounds failures → old.sure ≡ true → old.doubt ≡ None → BeginsAt tale members start → IsSealedAfter tale old.device start.standing rounds
+sealed_so_far tale members start old rounds failures come sure none begins =
     sure_is_sealed tale members old start.standing rounds sure ((come.covered tale members begins).decided (ap was_called none))
 
 told_more : (old new : Option Tale) (tale : Tale) (ops more : List LogOp) → old ≡ Some (with_ops ops tale) → new ≡ option_map (with_ops more) old → new ≡ Some (with_ops (ops ++ more) tale)
@@ -135,29 +137,37 @@ stays_known old new round made known side below = go side (subst (λ (k : Kind).
     go zero inside none = first round.side (known 0 inside) (ap (λ (k : KnownRecords). k.in_use) (sym made.first) ∙ none)
     go (suc side) inside none = second round.side (λ one. known (suc side) inside one) (ap (λ (k : KnownRecords). k.in_use) (sym made.second) ∙ none)
 
-pub after_round_made : (start old new : EngineView) (rounds : History) (round : Round) → HasCome start old rounds → IsLegalRound old.standing round → old.sure ≡ true → old.doubt ≡ None → HasMade round old new → RoundCovers round old new → HasCome start new (rounds ++ round ∷ [])
-after_round_made start old new rounds round come legal sure none made covers = record {
+made_held : (old new : EngineView) (round : Round) → IsLegalRound old.standing round → HasMade round old new → IsHeld old → IsHeld new
+made_held old new round legal made held = record {
+  stands = made.holds (held.in_use round.side (next_side old.standing round legal)) held.stands;
+  in_use = made.in_use held.in_use;
+}
+
+pub after_round_made : (start old new : EngineView) (rounds : History) (failures : ℕ) (round : Round) → HasCome start old rounds failures → IsLegalRound old.standing round → old.sure ≡ true → old.doubt ≡ None → HasMade round old new → RoundCovers round old new → HasCome start new (rounds ++ round ∷ []) failures
+after_round_made start old new rounds failures round come legal sure none made covers = record {
   legal = legal-push start.standing rounds round come.legal (subst (λ (t : Standing). IsLegalRound t round) come.standing legal);
   standing = made.standing ∙ (ap (λ (t : Standing). after_round t round) come.standing ∙ sym (state_after-append start.standing rounds (round ∷ [])));
   count = omega (arith, come.count, made.device.faults);
+  calm = λ calm. made.device.faults ∙ come.calm calm;
+  rose = λ some. subst (Rose start.device.faults) (sym made.device.faults) (come.rose some);
   quiet = λ calm.
-      let before = come.quiet (was_calm calm) in
+      let before = come.quiet calm in
       record {
         sure = λ _. made.sure;
         doubt = λ _. made.doubt;
         known = λ first known. stays_known old new round made (before.known first known);
-        holds = λ first known holds. made.holds (before.known first known round.side (next_side old.standing round legal)) (before.holds first known holds);
+        holds = λ first held. made_held old new round legal made (before.holds first held);
       };
   covered = λ tale members begins. record {
     decided = λ uncalled.
-        let after = sealed_so_far tale members start old rounds come sure none begins in
+        let after = sealed_so_far tale members start old rounds failures come sure none begins in
         let tale_then : Tale = with_ops after.left.ops tale in
         inl (sealed_then after (subst (λ (t : Standing). IsCoveredExit tale_then new.device t (sealed_round round ∷ []) (Some (after_round t round) ∷ [])) come.standing
         (covers tale_then after.left.told (ready_then tale old start.standing rounds come.standing after))));
     in_doubt = λ failed is called. absurd (cc (made.doubt, is));
   };
   cost = λ tale told decided calm.
-      let before = come.cost tale told decided (was_calm calm) in
+      let before = come.cost tale told decided calm in
       let ops : List LogOp = round_ops old round made.lines in
       record {
         ops = before.ops ++ ops;
@@ -166,9 +176,6 @@ after_round_made start old new rounds round come legal sure none made covers = r
         syncs = omega (arith, syncs-append before.ops ops, before.syncs, round_syncs old round made.lines, length-push rounds round, ap (settlings start.sure) (sure ∙ sym made.sure));
       };
 }
-  where
-    was_calm : ¬ Rose start.device.faults new.device.faults → ¬ Rose start.device.faults old.device.faults
-    was_calm calm rose = calm (subst (Rose start.device.faults) (sym made.device.faults) rose)
 
 -- A failing call: the count rose
 
@@ -211,14 +218,16 @@ sealed_still tale old new s rounds after standing exit =
 same_doubt : (new : EngineView) (failed other : FailedRound) → new.doubt ≡ Some failed → new.doubt ≡ Some other → failed ≡ other
 same_doubt new failed other one two = cc (one, two)
 
-pub after_round_failed : (start old new : EngineView) (rounds : History) (round : Round) (fault : DeviceFault) → HasCome start old rounds → old.sure ≡ true → old.doubt ≡ None → HasFailedToMake round fault old new → FailedRoundCovers round old new → HasCome start new rounds
-after_round_failed start old new rounds round fault come sure none failed covers = record {
+pub after_round_failed : (start old new : EngineView) (rounds : History) (failures : ℕ) (round : Round) (fault : DeviceFault) → HasCome start old rounds failures → old.sure ≡ true → old.doubt ≡ None → HasFailedToMake round fault old new → FailedRoundCovers round old new → HasCome start new rounds (failures + 1)
+after_round_failed start old new rounds failures round fault come sure none failed covers = record {
   legal = come.legal;
   standing = failed.standing ∙ come.standing;
   count = most_then start.device.faults old.device.faults new.device.faults come.count failed.device.stops.rose;
-  quiet = λ calm. absurd (calm rose);
+  calm = λ calm. absurd (omega (arith, calm));
+  rose = λ some. rose;
+  quiet = λ calm. absurd (omega (arith, calm));
   covered = λ tale members begins.
-      let after = sealed_so_far tale members start old rounds come sure none begins in
+      let after = sealed_so_far tale members start old rounds failures come sure none begins in
       let tale_then : Tale = with_ops after.left.ops tale in
       let ready = ready_then tale old start.standing rounds come.standing after in
       record {
@@ -228,7 +237,7 @@ after_round_failed start old new rounds round fault come sure none failed covers
             subst (IsInDoubtAfter tale new.device start.standing rounds) same
             (doubt_after tale old new start.standing rounds round after come.standing (covers.called (ap was_called is ∙ called) tale_then after.left.told ready));
       };
-  cost = λ tale told decided calm. absurd (calm rose);
+  cost = λ tale told decided calm. absurd (omega (arith, calm));
 }
   where
     rose : Rose start.device.faults new.device.faults
@@ -304,16 +313,13 @@ settled_state : (s : Standing) (rounds : History) (at : Standing) (called : Bool
 settled_state s rounds at true round standing = ap (λ (t : Standing). after_round t round) standing ∙ sym (state_after-append s rounds (round ∷ []))
 settled_state s rounds at false round standing = standing
 
-pub after_settled : (start old new : EngineView) (rounds : History) → HasCome start old rounds → ((failed : FailedRound) → old.doubt ≡ Some failed → IsLegalRound old.standing failed.round) → old.sure ≡ false → HasSettled old new → SettleCovers old new → HasCome start new (settled_rounds rounds old.doubt)
-after_settled start old new rounds come legal unsure settled covers = by_doubt old.doubt refl
+pub after_settled : (start old new : EngineView) (rounds : History) (failures : ℕ) → HasCome start old rounds failures → ((failed : FailedRound) → old.doubt ≡ Some failed → IsLegalRound old.standing failed.round) → old.sure ≡ false → HasSettled old new → SettleCovers old new → HasCome start new (settled_rounds rounds old.doubt) failures
+after_settled start old new rounds failures come legal unsure settled covers = by_doubt old.doubt refl
   where
-    was_calm : ¬ Rose start.device.faults new.device.faults → ¬ Rose start.device.faults old.device.faults
-    was_calm calm rose = calm (subst (Rose start.device.faults) (sym settled.device.faults) rose)
-
     ops : List LogOp
     ops = settle_to (header_for new.standing) new.standing
 
-    start_unsure : ¬ Rose start.device.faults old.device.faults → start.sure ≡ false
+    start_unsure : failures ≡ 0 → start.sure ≡ false
     start_unsure calm = unsure_before start.sure refl
       where
         unsure_before : (sure : Bool) → start.sure ≡ sure → start.sure ≡ false
@@ -323,17 +329,26 @@ after_settled start old new rounds come legal unsure settled covers = by_doubt o
     count : start.device.faults ≤ new.device.faults
     count = omega (arith, come.count, settled.device.faults)
 
-    quiet : ¬ Rose start.device.faults new.device.faults → IsQuiet start new
-    quiet calm =
-        let before = come.quiet (was_calm calm) in
+    calm : failures ≡ 0 → new.device.faults ≡ start.device.faults
+    calm none = settled.device.faults ∙ come.calm none
+
+    rose : failures ≢ 0 → Rose start.device.faults new.device.faults
+    rose some = subst (Rose start.device.faults) (sym settled.device.faults) (come.rose some)
+
+    settled_held : old.doubt ≡ None → IsHeld old → IsHeld new
+    settled_held none held = record { stands = settled.holds none held.stands; in_use = settled.in_use none held.in_use }
+
+    quiet : failures ≡ 0 → IsQuiet start new
+    quiet none =
+        let before = come.quiet none in
         record {
           sure = λ _. settled.sure;
           doubt = λ _. settled.doubt;
           known = λ first known. absurd (cc (before.sure first, unsure));
-          holds = λ first known holds. absurd (cc (before.sure first, unsure));
+          holds = λ first held. settled_held (before.doubt first) (before.holds first held);
         }
 
-    cost_with : (history : History) → (tale : Tale) → HasCost tale start old rounds → ¬ Rose start.device.faults old.device.faults → length history ≡ length rounds → HasCost tale start new history
+    cost_with : (history : History) → (tale : Tale) → HasCost tale start old rounds → failures ≡ 0 → length history ≡ length rounds → HasCost tale start new history
     cost_with history tale before calm same = record {
       ops = before.ops ++ ops;
       told = told_more old.device.told new.device.told tale before.ops ops before.told settled.device.told;
@@ -347,28 +362,32 @@ after_settled start old new rounds come legal unsure settled covers = by_doubt o
         after_settling : settlings start.sure new.sure ≡ 1
         after_settling = (λ i. settlings (start_unsure calm i) (settled.sure i))
 
-    by_doubt : (doubt : Option FailedRound) → old.doubt ≡ doubt → HasCome start new (settled_rounds rounds doubt)
+    by_doubt : (doubt : Option FailedRound) → old.doubt ≡ doubt → HasCome start new (settled_rounds rounds doubt) failures
     by_doubt None none = record {
       legal = come.legal;
       standing = settled.standing ∙ (ap (settled_standing old.standing) none ∙ come.standing);
       count = count;
+      calm = calm;
+      rose = rose;
       quiet = quiet;
       covered = λ tale members begins. record {
         decided = λ uncalled. inl (settled_found tale members old new start.standing rounds come.standing (covers.found (ap was_called none)) ((come.covered tale members begins).decided (ap was_called none)));
         in_doubt = λ failed is called. absurd (cc (settled.doubt, is));
       };
-      cost = λ tale told decided calm. cost_with rounds tale (come.cost tale told decided (was_calm calm)) (was_calm calm) refl;
+      cost = λ tale told decided none_failed. cost_with rounds tale (come.cost tale told decided none_failed) none_failed refl;
     }
     by_doubt (Some failed) is = record {
       legal = settled_legal start.standing rounds old.standing failed.called failed.round come.standing (legal failed is) come.legal;
       standing = settled.standing ∙ (ap (settled_standing old.standing) is ∙ settled_state start.standing rounds old.standing failed.called failed.round come.standing);
       count = count;
+      calm = calm;
+      rose = rose;
       quiet = quiet;
       covered = λ tale members begins. record {
         decided = λ uncalled. inl (by_called failed.called refl tale members begins);
         in_doubt = λ other other_is called. absurd (cc (settled.doubt, other_is));
       };
-      cost = λ tale told decided calm. absurd (cc ((come.quiet (was_calm calm)).doubt decided, is));
+      cost = λ tale told decided none_failed. absurd (cc ((come.quiet none_failed).doubt decided, is));
     }
       where
         by_called : (called : Bool) → failed.called ≡ called → (tale : Tale) (members : List (Option Standing)) → BeginsAt tale members start → IsSealedAfter tale new.device start.standing (with_doubt called rounds failed.round)
@@ -437,12 +456,14 @@ failed_doubt tale old new s rounds failed standing is called covers doubt = go d
           state = inr (joined.rounds ∙ (append-nil (rounds_in doubt.history) ∙ told), stays.still);
         }
 
-pub after_settling_failed : (start old new : EngineView) (rounds : History) (fault : DeviceFault) → HasCome start old rounds → old.sure ≡ false → HasFailedToSettle fault old new → FailedSettleCovers old new → HasCome start new rounds
-after_settling_failed start old new rounds fault come unsure failed covers = record {
+pub after_settling_failed : (start old new : EngineView) (rounds : History) (failures : ℕ) (fault : DeviceFault) → HasCome start old rounds failures → old.sure ≡ false → HasFailedToSettle fault old new → FailedSettleCovers old new → HasCome start new rounds (failures + 1)
+after_settling_failed start old new rounds failures fault come unsure failed covers = record {
   legal = come.legal;
   standing = failed.standing ∙ come.standing;
   count = most_then start.device.faults old.device.faults new.device.faults come.count failed.device.stops.rose;
-  quiet = λ calm. absurd (calm rose);
+  calm = λ calm. absurd (omega (arith, calm));
+  rose = λ some. rose;
+  quiet = λ calm. absurd (omega (arith, calm));
   covered = λ tale members begins. record {
     decided = λ uncalled.
         let was : was_called old.doubt ≡ false = ap was_called (sym failed.doubt) ∙ uncalled in
@@ -451,7 +472,7 @@ after_settling_failed start old new rounds fault come unsure failed covers = rec
         let was : old.doubt ≡ Some doubt = sym failed.doubt ∙ is in
         failed_doubt tale old new start.standing rounds doubt come.standing was called covers ((come.covered tale members begins).in_doubt doubt was called);
   };
-  cost = λ tale told decided calm. absurd (calm rose);
+  cost = λ tale told decided calm. absurd (omega (arith, calm));
 }
   where
     rose : Rose start.device.faults new.device.faults

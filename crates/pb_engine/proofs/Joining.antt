@@ -1,5 +1,5 @@
 -- Where an engine's calls begin, and calls after other calls.
-use Rattle.std.proofs.Common.{◌≡◌, ◌≢◌, ◌⊎◌, ℕ, zero, suc, ◌+◌, ◌≤◌, ◌<◌, Bool, true, false, List, [], ◌∷◌, ◌++◌, length, Option, Some, None, IfSome, option_map, refl, sym, ap, subst, ◌∙◌, inl, inr, arith, length-append}
+use Rattle.std.proofs.Common.{◌≡◌, ◌⊎◌, ℕ, suc, ◌+◌, ◌≤◌, Bool, true, false, List, [], ◌∷◌, ◌++◌, length, Option, Some, None, IfSome, option_map, refl, sym, ap, subst, ◌∙◌, inl, inr, arith, length-append}
 use Rattle.std.specs.List.{All}
 use Rattle.std.proofs.lemmas.Bool.{cases_eq}
 use Rattle.std.proofs.lemmas.List.{append-nil, append_assoc, get_or-set_same, length-set}
@@ -8,14 +8,12 @@ use Rattle.pb_pmem.specs.declared.line.Line.{Line}
 use Rattle.pb_pmem.specs.declared.log.LogOp.{LogOp}
 use Rattle.pb_pmem.specs.Count.{Rose, last_count}
 use Rattle.pb_pmem.specs.Device.{Device, Tale, IsReplay}
-use Rattle.pb_pmem.specs.Operations.{with_ops, Does, IsFailedPrefix}
-use Rattle.pb_object.specs.declared.request.Kept.{Kept}
+use Rattle.pb_pmem.specs.Operations.{with_ops, IsFailedPrefix}
 use Rattle.pb_object.specs.History.{Entry, Round, History, kept_by, after_entry, after_entries, after_round, state_after, AreLegal, IsLegalRound, IsLegal}
 use Rattle.pb_object.specs.Standing.{Standing, keep, kept_list_of, newest, newest_of}
 use Rattle.pb_layout.specs.declared.header.Header.{Header}
 use Rattle.pb_layout.specs.Doubt.{either_state, IsRoundInDoubt, HasRoundLanded}
-use Rattle.pb_layout.specs.Exits.{ImagesAlwaysRepresent, empty_for}
-use Rattle.pb_layout.specs.LogHistory.{LoggedRound, rounds_in, AreSealed}
+use Rattle.pb_layout.specs.LogHistory.{rounds_in}
 use Rattle.pb_layout.specs.Recovered.{Represents}
 use Rattle.pb_layout.specs.RegionOps.{settle_to}
 use Rattle.pb_layout.specs.Represents.{header_for}
@@ -26,10 +24,10 @@ use Rattle.pb_layout_laws.proofs.ReadyWithOne.{only_member}
 use Rattle.pb_layout_laws.proofs.Rounds.{RiseFrom, rise_from_zero, rise-others, after_entries-other}
 use Rattle.pb_layout_laws.proofs.ToldCalls.{from_told, told_then_sealed, sealed_after, after_then}
 use Rattle.pb_pair.proofs.Told.{told_now}
-use Rattle.pb_engine.specs.Good.{BeginsAt, IsStillFound, IsInDoubtAfter, IsDecidedAfter, IsCovered, fence_count, sync_count, settlings, HasCost, IsQuiet, HasCome}
+use Rattle.pb_engine.specs.Good.{BeginsAt, IsInDoubtAfter, IsDecidedAfter, IsCovered, settlings, HasCome}
 use Rattle.pb_engine.specs.Opening.{IsFresh, IsAdopted, IsAdoptRefusal}
-use Rattle.pb_engine.specs.View.{FailedRound, EngineView, was_called, DeviceRepresents, settled_by, settled_standing}
-use Rattle.pb_engine.proofs.Coming.{ready_then, sealed_still, rises, still_stands}
+use Rattle.pb_engine.specs.View.{FailedRound, EngineView, was_called, settled_by, settled_standing}
+use Rattle.pb_engine.proofs.Coming.{ready_then, sealed_still, rises}
 use Rattle.pb_engine.proofs.Costs.{fences-append, syncs-append}
 use Rattle.pb_pmem.specs.declared.device.DeviceFault.{DeviceFault}
 use Rattle.pb_layout.specs.Damage.{IsDamagedAt}
@@ -185,11 +183,16 @@ covered_on tale members middle last s rounds more none standing (inr (unsure, no
       state = is.state;
     })
 
-pub come_on : (first middle last : EngineView) (rounds more : History) → HasCome first middle rounds → middle.doubt ≡ None → HasCome middle last more → HasCome first last (rounds ++ more)
-come_on first middle last rounds more one none two = record {
+pub come_on : (first middle last : EngineView) (rounds more : History) (failures others : ℕ) → HasCome first middle rounds failures → middle.doubt ≡ None → HasCome middle last more others → HasCome first last (rounds ++ more) (failures + others)
+come_on first middle last rounds more failures others one none two = record {
   legal = legal-append first.standing rounds more one.legal (subst (λ (s : Standing). IsLegal s more) one.standing two.legal);
   standing = two.standing ∙ (ap (λ (s : Standing). state_after s more) one.standing ∙ sym (state_after-append first.standing rounds more));
   count = omega (arith, one.count, two.count);
+  calm = λ calm. two.calm (calm_after calm) ∙ one.calm (calm_before calm);
+  rose = λ some. elim (cases_eq failures 0) [
+    | inl nothing ↦ rises first.device.faults middle.device.faults last.device.faults one.count (two.rose (λ no_others. some (omega (arith, nothing, no_others))))
+    | inr before ↦ rose_on first.device.faults middle.device.faults last.device.faults (one.rose before) two.count
+  ];
   quiet = λ calm.
       let before = one.quiet (calm_before calm) in
       let after = two.quiet (calm_after calm) in
@@ -197,7 +200,7 @@ come_on first middle last rounds more one none two = record {
         sure = λ sure. after.sure (before.sure sure);
         doubt = λ nothing. after.doubt none;
         known = λ sure known. after.known (before.sure sure) (before.known sure known);
-        holds = λ sure known holds. after.holds (before.sure sure) (before.known sure known) (before.holds sure known holds);
+        holds = λ nothing held. after.holds none (before.holds nothing held);
       };
   covered = λ tale members begins. covered_on tale members middle last first.standing rounds more none one.standing ((one.covered tale members begins).decided (ap was_called none)) two.covered;
   cost = λ tale told decided calm.
@@ -212,11 +215,11 @@ come_on first middle last rounds more one none two = record {
       };
 }
   where
-    calm_before : ¬ Rose first.device.faults last.device.faults → ¬ Rose first.device.faults middle.device.faults
-    calm_before calm rose = calm (rose_on first.device.faults middle.device.faults last.device.faults rose two.count)
+    calm_before : failures + others ≡ 0 → failures ≡ 0
+    calm_before calm = omega (arith, calm)
 
-    calm_after : ¬ Rose first.device.faults last.device.faults → ¬ Rose middle.device.faults last.device.faults
-    calm_after calm rose = calm (rises first.device.faults middle.device.faults last.device.faults one.count rose)
+    calm_after : failures + others ≡ 0 → others ≡ 0
+    calm_after calm = omega (arith, calm)
 
 -- What a round keeps
 

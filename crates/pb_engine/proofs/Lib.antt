@@ -1,6 +1,7 @@
 pub mod Coming
 pub mod Costs
 pub mod Entries
+pub mod InUse
 pub mod Pairs
 pub mod Joining
 pub mod Known

@@ -1,11 +1,11 @@
 -- An engine over a pair: when it is sure, and what is in doubt.
-use Rattle.std.proofs.Common.{◌≡◌, ◌≢◌, Bool, true, false, Option, Some, None, List, [], ◌∷◌, refl, ap}
+use Rattle.std.proofs.Common.{◌≡◌, ◌≢◌, Bool, true, false, Option, Some, List, [], ◌∷◌, refl, ap}
 use Rattle.pb_object.specs.declared.request.Ask.{Ask}
 use Rattle.pb_object.specs.History.{after_round}
 use Rattle.pb_object.specs.Standing.{Standing}
 use Rattle.pb_pair.specs.declared.known.Known.{Known}
 use Rattle.pb_pair.specs.declared.known.Known.TheVariants.{Sure, Opened, Failed}
-use Rattle.pb_pair.specs.View.{SideView, if_known, forgotten}
+use Rattle.pb_pair.specs.View.{SideView, forgotten}
 use Rattle.pb_engine.specs.Asks.{asked_round}
 use Rattle.pb_engine.specs.Pairs.{is_sure, known_records, doubt_of}
 use Rattle.pb_engine.specs.View.{FailedRound, nothing_known, settled_standing, was_called}
@@ -19,14 +19,6 @@ pub known_unsure : (known : Known) → is_sure known ≡ false → known ≢ Sur
 known_unsure Sure is sure = absurd (cc (is))
 known_unsure Opened is sure = absurd (cc (sure))
 known_unsure Failed is sure = absurd (cc (sure))
-
--- what is known of the record in use was written
-pub was_written : (part : SideView) → (known_records part).in_use ≢ None → part.written ≡ true
-was_written part known = by part.written refl
-  where
-    by : (written : Bool) → part.written ≡ written → part.written ≡ true
-    by true is = is
-    by false is = absurd (known (ap (λ (w : Bool). if_known w part.lines) is))
 
 -- what is known of an unsure pair's records
 pub known_none : (part : SideView) → part ≡ forgotten part → known_records part ≡ nothing_known

@@ -4,6 +4,7 @@ use Rattle.std.specs.List.{All}
 use Rattle.std.proofs.lemmas.List.Elements.{All-head, All-tail}
 use Rattle.pb_object.specs.declared.request.Ask.{Ask}
 use Rattle.pb_object.specs.declared.request.Kept.{Kept}
+use Rattle.pb_object.specs.Changes.{after_asks}
 use Rattle.pb_object.specs.History.{Entry, after_entry, after_entries, AreLegal, ClientsRise, IsLegalRound}
 use Rattle.pb_object.specs.Object.{State, next_state}
 use Rattle.pb_object.specs.Standing.{Standing, kept_list_of, newest}
@@ -40,6 +41,11 @@ pub state_from-append : (state : State) (asks more : List Ask) → state_from st
 state_from-append state [] more = ap (λ (st : State). state_from st more) (sym (state_from-none state))
 state_from-append state (ask ∷ asks) more =
     state_from-more state ask (asks ++ more) ∙ (state_from-append (next_state state ask.op) asks more ∙ ap (λ (st : State). state_from st more) (sym (state_from-more state ask asks)))
+
+-- so it is the state after the requests in an object's words
+pub state_is_after : (asks : List Ask) (state : State) → state_from state asks ≡ after_asks state asks
+state_is_after [] state = state_from-none state
+state_is_after (ask ∷ asks) state = state_from-more state ask asks ∙ state_is_after asks (next_state state ask.op)
 
 -- the state after the entries that the requests become
 pub state_after_entries : (s : Standing) (asks : List Ask) → (after_entries s (answered_from s.state asks)).state ≡ state_from s.state asks

@@ -1,5 +1,5 @@
 -- What an engine's calls come to since it was opened or made.
-use Rattle.std.specs.Prelude.{◌≡◌, ◌⊎◌, ℕ, suc, ◌+◌, ◌≤◌, Bool, true, false, List, [], ◌∷◌, ◌++◌, length, Option, Some, None, IfSome}
+use Rattle.std.specs.Prelude.{◌≡◌, ◌≢◌, ◌⊎◌, ℕ, suc, ◌+◌, ◌≤◌, Bool, true, false, List, [], ◌∷◌, ◌++◌, length, Option, Some, None, IfSome}
 use Rattle.pb_pmem.specs.declared.log.LogOp.{LogOp}
 use Rattle.pb_pmem.specs.declared.log.LogOp.TheVariants.{Whole, Word, Back, Fence, Sync}
 use Rattle.pb_pmem.specs.Count.{Rose}
@@ -11,7 +11,7 @@ use Rattle.pb_layout.specs.Doubt.{either_state, IsRoundInDoubt, HasRoundLanded}
 use Rattle.pb_layout.specs.LogHistory.{LoggedRound, rounds_in, AreSealed}
 use Rattle.pb_layout.specs.Recovered.{Represents}
 use Rattle.pb_layout.specs.ToldExits.{IsCoveredExit, IsSealedAfter, IsReadyWith, contents_of}
-use Rattle.pb_engine.specs.View.{FailedRound, EngineView, AreKnown, was_called, DeviceRepresents}
+use Rattle.pb_engine.specs.View.{FailedRound, EngineView, AreKnown, was_called, IsHeld}
 
 -- Where the calls begin: the device tells its log, holds the standing and is ready; with the standing alone, where the engine is sure
 pub record BeginsAt (tale : Tale) (members : List (Option Standing)) (start : EngineView) : Type 0 where
@@ -67,30 +67,33 @@ settlings true sure = 0
 settlings false true = 1
 settlings false false = 0
 
--- Where no call of the device failed since, its operations have a fence and a sync for each round, and a sync for settling the opening
+-- Where no call of the engine failed since, its operations have a fence and a sync for each round, and a sync for settling the opening
 pub record HasCost (tale : Tale) (start now : EngineView) (rounds : History) : Type 0 where
   pub ops : List LogOp
   pub told : now.device.told ≡ Some (with_ops ops tale)
   pub fences : fence_count ops ≡ length rounds
   pub syncs : sync_count ops ≡ length rounds + settlings start.sure now.sure
 
--- where no call of the device failed since, nothing came into doubt; and where the engine was sure and knew what its records hold, it
--- knows so still, and what the device's lines represent has moved on as well
+-- where no call of the engine failed since, nothing came into doubt; where the engine was sure and knew what its records hold, it knows so
+-- still; and what the device's lines represent has moved on as well
 pub record IsQuiet (start now : EngineView) : Type 0 where
   pub sure : start.sure ≡ true → now.sure ≡ true
   pub doubt : start.doubt ≡ None → now.doubt ≡ None
   pub known : start.sure ≡ true → AreKnown start → AreKnown now
-  pub holds : start.sure ≡ true → AreKnown start → DeviceRepresents start.standing start.device → DeviceRepresents now.standing now.device
+  pub holds : start.doubt ≡ None → IsHeld start → IsHeld now
 
--- So an engine has come from the start to this by these rounds, one after the other: they are legal, and the standing is the one after
--- them; and what is said above holds where the device tells its log and was ready
-pub record HasCome (start now : EngineView) (rounds : History) : Type 0 where
+-- So an engine has come from the start to this by these rounds, one after the other, with so many calls that failed: the rounds are
+-- legal, and the standing is the one after them; the device's count of faults stayed where no call failed, and rose where one did; and what
+-- is said above holds where the device tells its log and was ready
+pub record HasCome (start now : EngineView) (rounds : History) (failures : ℕ) : Type 0 where
   pub legal : IsLegal start.standing rounds
   pub standing : now.standing ≡ state_after start.standing rounds
   pub count : start.device.faults ≤ now.device.faults
-  pub quiet : ¬ Rose start.device.faults now.device.faults → IsQuiet start now
+  pub calm : failures ≡ 0 → now.device.faults ≡ start.device.faults
+  pub rose : failures ≢ 0 → Rose start.device.faults now.device.faults
+  pub quiet : failures ≡ 0 → IsQuiet start now
   pub covered : (tale : Tale) (members : List (Option Standing)) → BeginsAt tale members start → IsCovered tale members start.standing now rounds
-  pub cost : (tale : Tale) → start.device.told ≡ Some tale → start.doubt ≡ None → ¬ Rose start.device.faults now.device.faults → HasCost tale start now rounds
+  pub cost : (tale : Tale) → start.device.told ≡ Some tale → start.doubt ≡ None → failures ≡ 0 → HasCost tale start now rounds
 
 -- the rounds after settling: the one in doubt is one more where its index word was called
 abbrev pub with_doubt : Bool → History → Round → History

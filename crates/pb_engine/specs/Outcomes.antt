@@ -7,7 +7,7 @@ use Rattle.pb_object.specs.History.{Round, after_round}
 use Rattle.pb_layout.specs.RegionOps.{settle_to}
 use Rattle.pb_layout.specs.Represents.{header_for}
 use Rattle.pb_engine.specs.Operations.{round_ops, IsFailedRoundOps}
-use Rattle.pb_engine.specs.View.{KnownRecords, EngineView, nothing_known, settled_standing, DeviceRepresents, IsKnown}
+use Rattle.pb_engine.specs.View.{KnownRecords, EngineView, nothing_known, settled_standing, DeviceRepresents, IsInUse, AreInUse}
 use Rattle.pb_layout.specs.Header.{record_length}
 use Rattle.pb_layout.specs.Record.{IsRecord}
 use Rattle.pb_object.specs.Standing.{rounds_of}
@@ -29,7 +29,8 @@ pub record IsNextRecordOf (engine : EngineView) (round : Round) (lines : List Li
   pub long : length lines ≡ record_length (header_for engine.standing)
   pub own : IsRecord (header_for engine.standing) round.side (rounds_of engine.standing round.side + 1) lines
 
--- a round was made: the standing is the one after it, the engine is sure, and the device did the round's operations
+-- a round was made: the standing is the one after it, the engine is sure, and the device did the round's operations. Where its lines
+-- represented the standing, they do so again, and its records in use are again those in memory
 pub record HasMade (round : Round) (old new : EngineView) : Type 0 where
   pub standing : new.standing ≡ after_round old.standing round
   pub sure : new.sure ≡ true
@@ -39,7 +40,8 @@ pub record HasMade (round : Round) (old new : EngineView) : Type 0 where
   pub device : Does (round_ops old round lines) old.device new.device
   pub first : new.first ≡ stored_on_first old round.side lines
   pub second : new.second ≡ stored_on_second old round.side lines
-  pub holds : IsKnown old round.side → DeviceRepresents old.standing old.device → DeviceRepresents new.standing new.device
+  pub holds : IsInUse old round.side → DeviceRepresents old.standing old.device → DeviceRepresents new.standing new.device
+  pub in_use : AreInUse old → AreInUse new
 
 -- nothing is sure any more: neither whether the region is settled nor what its records hold
 pub record IsUnsure (engine : EngineView) : Type 0 where
@@ -66,6 +68,7 @@ pub record HasSettled (old new : EngineView) : Type 0 where
   pub first : new.first ≡ nothing_known
   pub second : new.second ≡ nothing_known
   pub holds : old.doubt ≡ None → DeviceRepresents old.standing old.device → DeviceRepresents new.standing new.device
+  pub in_use : old.doubt ≡ None → AreInUse old → AreInUse new
 
 -- settling failed: all is as before, and the device did the first of the operations
 pub record HasFailedToSettle (fault : DeviceFault) (old new : EngineView) : Type 0 where

@@ -1,14 +1,15 @@
 //! The laws of an engine's calls one after the other: what they come to since it was opened. These functions are here for their contracts.
-ghost use Rattle.std.specs.Prelude.{◌≡◌, true, false, List, [], ◌∷◌, ◌++◌, Some, Option, None, All, length, ◌⊎◌};
+ghost use Rattle.std.specs.Prelude.{◌≡◌, ℕ, ◌+◌, ◌<◌, true, false, List, [], ◌∷◌, ◌++◌, Some, Option, None, All, length, ◌⊎◌};
 ghost use Rattle.pb_pmem.specs.declared.device.DeviceFault.{DeviceFault};
+ghost use Rattle.pb_object.specs.declared.kind.Kind.{Kind};
 ghost use Rattle.pb_object.specs.declared.request.Ask.{Ask};
 ghost use Rattle.pb_object.specs.History.{Round, History, IsLegalRound, kept_by, after_round};
-ghost use Rattle.pb_object.specs.Standing.{Standing, newest_of};
+ghost use Rattle.pb_object.specs.Standing.{Standing, newest_of, side_count};
 ghost use Rattle.pb_engine.specs.Asks.{MayBeServed, asked_round};
 ghost use Rattle.pb_engine.specs.Covers.{RoundCovers, FailedRoundCovers, SettleCovers, FailedSettleCovers};
 ghost use Rattle.pb_engine.specs.Good.{HasCome, settled_rounds, BeginsAt};
 ghost use Rattle.pb_engine.specs.Outcomes.{HasMade, HasFailedToMake, HasSettled, HasFailedToSettle};
-ghost use Rattle.pb_engine.specs.View.{EngineView, FailedRound, was_called};
+ghost use Rattle.pb_engine.specs.View.{EngineView, FailedRound, IsEngine, IsInUse, IsKnown, was_called};
 ghost use Rattle.pb_pmem.specs.Device.{Device, Tale, IsReplay};
 ghost use Rattle.pb_pmem.specs.Operations.{with_ops};
 ghost use Rattle.pb_layout.specs.declared.header.Header.{Header};
@@ -28,60 +29,60 @@ pub fn served_rounds_are_legal()
 
 /// Before its first call an engine has come nowhere.
 pub fn beginning()
-    ensures { (start : EngineView) → HasCome start start [] }
+    ensures { (start : EngineView) → HasCome start start [] 0 }
 {}
 
 /// A round that was made is one more.
 pub fn after_a_round()
-    ensures { (start old new : EngineView) (rounds : History) (round : Round)
-        → HasCome start old rounds
+    ensures { (start old new : EngineView) (rounds : History) (failures : ℕ) (round : Round)
+        → HasCome start old rounds failures
         → IsLegalRound old.standing round
         → old.sure ≡ true
         → old.doubt ≡ None
         → HasMade round old new
         → RoundCovers round old new
-        → HasCome start new (rounds ++ round ∷ []) }
+        → HasCome start new (rounds ++ round ∷ []) failures }
 {}
 
 /// One that failed is in doubt.
 pub fn after_a_failed_round()
-    ensures { (start old new : EngineView) (rounds : History) (round : Round) (fault : DeviceFault)
-        → HasCome start old rounds
+    ensures { (start old new : EngineView) (rounds : History) (failures : ℕ) (round : Round) (fault : DeviceFault)
+        → HasCome start old rounds failures
         → old.sure ≡ true
         → old.doubt ≡ None
         → HasFailedToMake round fault old new
         → FailedRoundCovers round old new
-        → HasCome start new rounds }
+        → HasCome start new rounds (failures + 1) }
 {}
 
 /// Settling adds the round in doubt where its index word was called, and none else.
 pub fn after_settling()
-    ensures { (start old new : EngineView) (rounds : History)
-        → HasCome start old rounds
+    ensures { (start old new : EngineView) (rounds : History) (failures : ℕ)
+        → HasCome start old rounds failures
         → ((failed : FailedRound) → old.doubt ≡ Some failed → IsLegalRound old.standing failed.round)
         → old.sure ≡ false
         → HasSettled old new
         → SettleCovers old new
-        → HasCome start new (settled_rounds rounds old.doubt) }
+        → HasCome start new (settled_rounds rounds old.doubt) failures }
 {}
 
 /// Settling that failed changes nothing of that.
 pub fn after_failed_settling()
-    ensures { (start old new : EngineView) (rounds : History) (fault : DeviceFault)
-        → HasCome start old rounds
+    ensures { (start old new : EngineView) (rounds : History) (failures : ℕ) (fault : DeviceFault)
+        → HasCome start old rounds failures
         → old.sure ≡ false
         → HasFailedToSettle fault old new
         → FailedSettleCovers old new
-        → HasCome start new rounds }
+        → HasCome start new rounds (failures + 1) }
 {}
 
 /// Calls after other calls come to both, where nothing was in doubt between them.
 pub fn calls_after_calls()
-    ensures { (first middle last : EngineView) (rounds more : History)
-        → HasCome first middle rounds
+    ensures { (first middle last : EngineView) (rounds more : History) (failures others : ℕ)
+        → HasCome first middle rounds failures
         → middle.doubt ≡ None
-        → HasCome middle last more
-        → HasCome first last (rounds ++ more) }
+        → HasCome middle last more others
+        → HasCome first last (rounds ++ more) (failures + others) }
 {}
 
 /// An engine that was just made on a device that was ready with no region begins on one that is ready with the empty standing alone.
@@ -101,6 +102,15 @@ pub fn an_adopted_engine_begins()
         → device.told ≡ Some tale
         → IsReadyWith members tale
         → BeginsAt tale members engine }
+{}
+
+/// What an engine knows of a side's record in use is what the device holds there and the engine has in memory.
+pub fn known_records_are_in_use()
+    ensures { (kind : Kind) (engine : EngineView) (side : ℕ)
+        → IsEngine kind engine
+        → side < side_count kind
+        → IsKnown engine side
+        → IsInUse engine side }
 {}
 
 /// After a round each of its requests is its client's last recorded one, with its reply.

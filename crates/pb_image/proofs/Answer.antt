@@ -7,7 +7,7 @@ use Rattle.pb_pmem.specs.declared.device.PmemFault.{PmemFault}
 use Rattle.pb_pmem.specs.declared.line.Line.{Line}
 use Rattle.pb_pmem.specs.declared.log.LogOp.{LogOp}
 use Rattle.pb_pmem.specs.declared.log.LogOp.TheVariants.{Whole, Word, Back, Fence, Sync}
-use Rattle.pb_pmem.specs.Count.{Rose, last_count}
+use Rattle.pb_pmem.specs.Count.{Rose, last_count, raised}
 use Rattle.pb_pmem.specs.Device.{Device, Adds, Fails, Reads, with_op, IsWholeOf, Is, IsMark}
 use Rattle.pb_pmem.specs.Contents.{contents}
 use Rattle.pb_pmem.specs.Lines.{line_at}
@@ -16,7 +16,7 @@ use Rattle.pb_image.specs.declared.fail.Call.{Call}
 use Rattle.pb_image.specs.declared.fail.Call.TheVariants.{Read}
 use Rattle.pb_image.specs.declared.fail.How.{How}
 use Rattle.pb_image.specs.declared.fail.How.TheVariants.{Left, Done, Torn, Fenced}
-use Rattle.pb_image.specs.Fails.{raised, left_by, added_by, faults_after, counted}
+use Rattle.pb_image.specs.Fails.{left_by, added_by, faults_after, counted}
 use Rattle.pb_image.specs.State.{ImageView, seen_of, failure_of, failure_of_read, after_call, after_read, IsLeftBy}
 
 -- a count of 64 bits that is raised rose

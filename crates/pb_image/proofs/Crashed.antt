@@ -17,7 +17,8 @@ use Rattle.pb_image.specs.Bytes.{lines_of_bytes}
 use Rattle.pb_image.specs.Fails.{filled}
 use Rattle.pb_image.specs.Picked.{flooded, with_loose, picked}
 use Rattle.pb_image.specs.State.{ImageView, IsNew, is_within}
-use Rattle.pb_image.proofs.Sort.{and_parts, within-backed, within-unbacked, length-with_loose}
+use Rattle.std.proofs.lemmas.Bool.{and_parts}
+use Rattle.pb_image.proofs.Sort.{within-backed, within-unbacked, length-with_loose}
 
 -- how many lines bytes have
 pub length-lines_of_bytes : (count : ℕ) (bytes : List ℕ) → length (lines_of_bytes count bytes) ≡ count

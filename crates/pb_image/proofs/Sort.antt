@@ -1,7 +1,7 @@
 -- The writes of a log, sorted from the last operation to the first, and the lines that they change.
-use Rattle.std.proofs.Common.{◌≡◌, ℕ, zero, suc, ◌+◌, ◌-◌, ◌<◌, ◌≤◌, Bool, true, false, cond, ◌&&◌, ◌⊎◌, IsTrue, eqb, replicate, List, [], ◌∷◌, ◌++◌, Some, None, length, get_or, take, drop, ap, sym, refl, ◌∙◌, arith}
+use Rattle.std.proofs.Common.{◌≡◌, ℕ, zero, suc, ◌+◌, ◌-◌, ◌<◌, ◌≤◌, Bool, true, false, cond, ◌⊎◌, IsTrue, eqb, replicate, List, [], ◌∷◌, ◌++◌, Some, None, length, get_or, take, drop, ap, sym, refl, ◌∙◌, arith}
 use Rattle.std.specs.List.{list_any, list_all}
-use Rattle.std.proofs.lemmas.Bool.{false≢true}
+use Rattle.std.proofs.lemmas.Bool.{and_parts}
 use Rattle.std.proofs.lemmas.Bool.Decides.{nat_tests}
 use Rattle.std.proofs.lemmas.List.{take-append-drop, drop_all, length-replicate}
 use Rattle.std.proofs.lemmas.List.Folds.{list_all-append}
@@ -20,10 +20,6 @@ use Rattle.pb_image.specs.Writes.{IsSkips, HasBacks, IsSplit}
 use Rattle.pb_image.proofs.Steps.{at_place}
 
 -- Within the device
-
-pub and_parts : (a b : Bool) → (a && b) ≡ true → (a ≡ true) × (b ≡ true)
-and_parts true b h = (refl, h)
-and_parts false b h = absurd (false≢true h)
 
 pub within_at : (log : List LogOp) (i : ℕ) (d : LogOp) → IsTrue (list_all is_within log) → i < length log → IsTrue (is_within (get_or log i d))
 within_at [] i d h inside = absurd (omega arith)

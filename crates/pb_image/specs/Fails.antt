@@ -1,10 +1,10 @@
 -- Which calls of the device in memory fail, and what a failing call leaves.
-use Rattle.std.specs.Prelude.{ℕ, ◌+◌, min, Bool, true, false, ◌&&◌, ◌==◌, List, Option, Some, None, option_map, find}
+use Rattle.std.specs.Prelude.{ℕ, ◌+◌, Bool, true, false, ◌&&◌, ◌==◌, List, Option, Some, None, option_map, find}
 use Rattle.pb_pmem.specs.declared.line.Line.{Line}
 use Rattle.pb_pmem.specs.declared.log.LogOp.{LogOp}
 use Rattle.pb_pmem.specs.declared.log.LogOp.TheVariants.{Whole, Fence, Sync}
 use Rattle.pb_pmem.specs.Lines.{line_of}
-use Rattle.pb_pmem.specs.Count.{last_count}
+use Rattle.pb_pmem.specs.Count.{raised}
 use Rattle.pb_image.specs.declared.calls.Calls.{Calls}
 use Rattle.pb_image.specs.declared.fail.Call.{Call}
 use Rattle.pb_image.specs.declared.fail.Call.TheVariants.{Read, Write, SetWord, WriteBack, Any}
@@ -12,10 +12,6 @@ use Rattle.pb_image.specs.declared.fail.Call.TheVariants.{Fence as FenceCall, Sy
 use Rattle.pb_image.specs.declared.fail.How.{How}
 use Rattle.pb_image.specs.declared.fail.How.TheVariants.{Left, Done, Torn, Fenced}
 use Rattle.pb_image.specs.declared.fail.Fail.{Fail}
-
--- one more, up to the last value of a count
-abbrev pub raised : ℕ → ℕ
-raised count = min (count + 1) last_count
 
 -- how many calls of a kind there were
 abbrev pub count_of : Call → Calls → ℕ

@@ -1,7 +1,7 @@
 -- What contracts see of a source in memory, and what a read does to it.
 use Rattle.std.specs.Prelude.{ℕ, List, Result, Ok, Err, drop, length, min}
 use Rattle.std.specs.List.{Contains}
-use Rattle.pb_io.specs.Counts.{one_more}
+use Rattle.pb_pmem.specs.Count.{raised}
 
 -- a source in memory: the bytes that are left, the most bytes of one read, the numbers of the reads that fail,
 -- how many reads there were, and how many of them failed
@@ -14,7 +14,7 @@ pub record SourceState : Type 0 where
 
 -- the next read is one of those that fail
 abbrev pub IsReadFault : SourceState → Type 0
-IsReadFault source = Contains source.fails (one_more source.calls)
+IsReadFault source = Contains source.fails (raised source.calls)
 
 -- how many bytes the next read gives, where it doesn't fail
 abbrev pub read_count : SourceState → ℕ → ℕ
@@ -23,6 +23,6 @@ read_count source room = min (min source.piece room) (length source.rest)
 -- the source after a read
 abbrev pub after_read : {E : Type 0} → SourceState → Result ℕ E → SourceState
 after_read source (Ok count) =
-    record source { rest = drop count source.rest; calls = one_more source.calls }
+    record source { rest = drop count source.rest; calls = raised source.calls }
 after_read source (Err _) =
-    record source { calls = one_more source.calls; faults = one_more source.faults }
+    record source { calls = raised source.calls; faults = raised source.faults }

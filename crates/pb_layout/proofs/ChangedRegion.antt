@@ -175,7 +175,8 @@ round_other : (s t : Standing) (side other : ℕ) → other ≢ side → t.round
 round_other s t side other apart e =
     ap (λ (r : List ℕ). get_or r other 0) e ∙ get_or-set_other s.rounds side other (rounds_of s side + 1) 0 apart
 
-own_along : (h k : Header) (side other r q : ℕ) (a b : List Line) → h ≡ k → side ≡ other → r ≡ q → a ≡ b → IsRecord h side r a → IsRecord k other q b
+-- a record of one header, side and round number, each named in another way
+pub own_along : (h k : Header) (side other r q : ℕ) (a b : List Line) → h ≡ k → side ≡ other → r ≡ q → a ≡ b → IsRecord h side r a → IsRecord k other q b
 own_along h k side other r q a b head same round lines own =
     subst (λ (g : Header). IsRecord g other q b) head (subst (λ (x : ℕ). IsRecord h x q b) same (subst (λ (n : ℕ). IsRecord h side n b) round (subst (λ (ls : List Line). IsRecord h side r ls) lines own)))
 

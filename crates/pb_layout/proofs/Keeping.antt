@@ -15,10 +15,10 @@ use Rattle.pb_object.specs.Map.{Register, register_at, last_version, register_re
 use Rattle.pb_object.specs.Object.{State, Registers, Items, Rising, Waits, reply_of}
 use Rattle.pb_object.specs.ObjectLines.{kind_of}
 use Rattle.pb_object.specs.Queue.{Waiting, tail_of, last_position, take_reply, queue_reply_by}
-use Rattle.pb_object.specs.Request.{LeavesUnusedZero, IsOperation, reply}
+use Rattle.pb_object.specs.Request.{LeavesUnusedZero, IsOperation, reply, LeavesReplyZero}
 use Rattle.pb_object.specs.Stack.{item_reply, top_item, stack_reply_by}
 use Rattle.pb_object.specs.Standing.{Standing, side_count}
-use Rattle.pb_layout.specs.ClientLine.{LeavesReplyZero, IsReplyTo, IsRecorded}
+use Rattle.pb_layout.specs.ClientLine.{IsReplyTo, IsRecorded}
 use Rattle.pb_object.proofs.CodeLemmas.{answer_of-code}
 
 -- a reply that an action may have

@@ -120,7 +120,7 @@ after_entries-sum s side (entry ∷ entries) all legal =
     let rest : numbers_of (after_entries (after_entry s entry) entries) ≡ length entries + numbers_of (after_entry s entry) = after_entries-sum (after_entry s entry) side entries (after_entry-keeps s entry all) legal.1 in
     omega (arith, one, rest, legal.0.number)
 
-some-long : (entries : List Entry) → entries ≢ [] → 1 ≤ length entries
+pub some-long : (entries : List Entry) → entries ≢ [] → 1 ≤ length entries
 some-long [] some = absurd (some refl)
 some-long (entry ∷ entries) some = omega arith
 

@@ -12,7 +12,6 @@ pub mod Places
 pub mod Readers
 pub mod Readiness
 pub mod Records
-pub mod Replies
 pub mod ChangedRegion
 pub mod SlotLemmas
 pub mod SparseWrites

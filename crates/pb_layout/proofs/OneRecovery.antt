@@ -28,7 +28,8 @@ use Rattle.pb_layout.specs.declared.header.Header.{Header}
 use Rattle.pb_layout.specs.declared.header.TheConstants.{MAGIC}
 use Rattle.pb_layout.proofs.Checks.{all_answer, all_sound, all_one, region_sharp}
 use Rattle.pb_layout.proofs.Decided.{decided_eq}
-use Rattle.pb_layout.proofs.OneStanding.{few_sides, one_standing}
+use Rattle.pb_object.proofs.Sides.{few_sides}
+use Rattle.pb_layout.proofs.OneStanding.{one_standing}
 use Rattle.pb_layout.proofs.Readers.{named_by_line, named_of_header}
 
 -- what the lines say of themselves is what the standing says

@@ -1,12 +1,9 @@
 -- The parts of a region say one standing at most.
-use Rattle.std.proofs.Common.{◌≡◌, ℕ, ◌+◌, ◌<◌, ◌≤◌, List, [], length, get_or, Some, refl, sym, ap, ◌∙◌, subst, arith}
+use Rattle.std.proofs.Common.{◌≡◌, ℕ, ◌+◌, ◌<◌, ◌≤◌, List, [], length, get_or, sym, ap, ◌∙◌, subst, arith}
 use Rattle.std.proofs.lemmas.List.{ext_get_or}
 use Rattle.pb_pmem.specs.declared.line.Line.{Line}
 use Rattle.pb_pmem.specs.Lines.{line_at}
-use Rattle.pb_object.specs.declared.kind.Kind.{Kind}
-use Rattle.pb_object.specs.declared.kind.Kind.TheVariants.{Map, Stack, Heap, Queue}
 use Rattle.pb_object.specs.Heap.{rising_of}
-use Rattle.pb_object.specs.ItemLines.{WordsRepresentItems}
 use Rattle.pb_object.specs.Map.{Register, empty_register}
 use Rattle.pb_object.specs.MapLines.{WordsRepresentRegisters}
 use Rattle.pb_object.specs.Queue.{Waiting}
@@ -14,6 +11,8 @@ use Rattle.pb_object.specs.Object.{State, Registers, Items, Rising, Waits}
 use Rattle.pb_object.specs.ObjectLines.{kind_of, size_of, WordsRepresent}
 use Rattle.pb_object.specs.Standing.{Standing, side_count}
 use Rattle.pb_object.proofs.CodeLemmas.{same_kind}
+use Rattle.pb_object.proofs.ObjectLinesLemmas.{same_items}
+use Rattle.pb_object.proofs.Sides.{few_sides}
 use Rattle.pb_layout.specs.Header.{header_line_of, word}
 use Rattle.pb_layout.specs.Region.{cell_place}
 use Rattle.pb_layout.specs.Represents.{header_for, record_in_use, record_of_side, object_parts, kept_list, CellsRepresent, RegionParts}
@@ -26,10 +25,6 @@ same_header a b e =
     let clients = ap (λ (line : Line). word line 3) e in
     let size = ap (λ (line : Line). word line 4) e in
     λ i. record { kind = kind i; clients = clients i; size = size i }
-
-same_items : (lines : List Line) (a b : List ℕ) → WordsRepresentItems lines a → WordsRepresentItems lines b → a ≡ b
-same_items lines a b left right =
-    ext_get_or 0 a b (left.count ∙ sym right.count) (λ place inside. left.each place inside ∙ sym (right.each place (omega arith)))
 
 same_registers : (lines : List Line) (a b : List Register) → length a ≡ length b → WordsRepresentRegisters lines a → WordsRepresentRegisters lines b → a ≡ b
 same_registers lines a b long left right =
@@ -59,12 +54,6 @@ same_rounds : (image : List Line) (s t : Standing) → side_count s.kind ≤ 2 �
 same_rounds image s t few kind left right =
     let long : length s.rounds ≡ length t.rounds = left.sides ∙ (ap side_count kind ∙ sym right.sides) in
     ext_get_or 0 s.rounds t.rounds long (λ side inside. ap (λ (line : Line). word line 0) (sym (left.rounds side (omega (arith, left.sides))) ∙ right.rounds side (omega (arith, left.sides))))
-
-pub few_sides : (kind : Kind) → side_count kind ≤ 2
-few_sides Map = omega arith
-few_sides Stack = omega arith
-few_sides Heap = omega arith
-few_sides Queue = omega arith
 
 pub one_standing : (image : List Line) (s t : Standing) → RegionParts image s → RegionParts image t → s ≡ t
 one_standing image s t left right =

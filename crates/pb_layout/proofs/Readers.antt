@@ -1,9 +1,8 @@
 -- Whether the format allows a line is decided, for each sort of line.
-use Rattle.std.proofs.Common.{◌≡◌, ℕ, ◌+◌, ◌-◌, ◌*◌, ◌/◌, ◌<◌, Some, IsSomeAnd, Contains, List, refl, sym, ap, ◌∙◌, subst, unwrap_or, arith}
+use Rattle.std.proofs.Common.{◌≡◌, ℕ, ◌+◌, ◌-◌, ◌*◌, ◌/◌, ◌<◌, IsSomeAnd, Contains, List, sym, ap, ◌∙◌, subst, unwrap_or, arith}
 use Rattle.pb_pmem.specs.declared.line.Line.{Line}
 use Rattle.pb_pmem.specs.Lines.{line_at, word_of}
 use Rattle.pb_object.specs.declared.codes.Answer.{Answer}
-use Rattle.pb_object.specs.declared.codes.Answer.TheVariants.{Is, Was, Stale, NoKey, Worn, Depth, Full, Item, Empty, Size, At}
 use Rattle.pb_object.specs.declared.kind.Kind.{Kind}
 use Rattle.pb_object.specs.declared.kind.Kind.TheVariants.{Map, Stack, Heap, Queue}
 use Rattle.pb_object.specs.declared.request.Kept.{Kept}
@@ -17,9 +16,9 @@ use Rattle.pb_object.specs.Map.{Register, empty_register, last_version}
 use Rattle.pb_object.specs.MapLines.{register_in, IsRegisterAt, IsMapLine}
 use Rattle.pb_object.specs.ObjectLines.{IsQueueLine, IsAllowedLine}
 use Rattle.pb_object.specs.Queue.{last_position}
-use Rattle.pb_object.specs.Request.{LeavesUnusedZero, IsOperation, none_kept}
+use Rattle.pb_object.specs.Request.{LeavesUnusedZero, IsOperation, none_kept, LeavesReplyZero}
 use Rattle.pb_layout.specs.Cell.{cell_line_of, IsCell}
-use Rattle.pb_layout.specs.ClientLine.{client_line_of, kept_in, LeavesReplyZero, IsReplyTo, IsRecorded, IsKept}
+use Rattle.pb_layout.specs.ClientLine.{client_line_of, kept_in, IsReplyTo, IsRecorded, IsKept}
 use Rattle.pb_layout.specs.Shape.{IsHeader}
 use Rattle.pb_layout.specs.Header.{header_line_of, IsHeaderLine, named_header, word}
 use Rattle.pb_layout.specs.declared.header.Header.{Header}

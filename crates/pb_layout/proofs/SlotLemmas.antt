@@ -391,17 +391,21 @@ none_gone puts takes client =
 one_more : (gone : ℕ) (all : List Kept) → drop (gone + 1) all ≡ drop 1 (drop gone all)
 one_more gone all = ap (λ (n : ℕ). drop n all) (omega arith) ∙ sym (drop-drop 1 gone all)
 
+-- what is left of both has the two slots in front that are next
+left_now : (puts takes : List Line) (client gone put take : ℕ) → gone < KEPT_REQUESTS → HasGone puts takes client gone put take → drop gone (newest_of_two KEPT_REQUESTS (kept_in_slots puts client) (kept_in_slots takes client)) ≡ newest_of_two (suc (KEPT_REQUESTS - (gone + 1))) (with_slot (slot_line_at puts client put) (slots_from puts client (put + 1))) (with_slot (slot_line_at takes client take) (slots_from takes client (take + 1)))
+left_now puts takes client gone put take inside has =
+    let count : KEPT_REQUESTS - gone ≡ suc (KEPT_REQUESTS - (gone + 1)) = omega arith in
+    let left = slots_from-more puts client put (omega (arith, has.both)) in
+    let right = slots_from-more takes client take (omega (arith, has.both)) in
+    has.left ∙ (λ i. newest_of_two (count i) (left i) (right i))
+
 -- a take is next
 pub gone_take : (puts takes : List Line) (client gone put take : ℕ) → AreClientSlots Queue 0 puts client → gone + 1 < KEPT_REQUESTS → HasGone puts takes client gone put take → word (slot_line_at puts client put) 0 < word (slot_line_at takes client take) 0 → HasGone puts takes client (gone + 1) put (take + 1)
 gone_take puts takes client gone put take are inside has less =
     let few : put < KEPT_REQUESTS = omega (arith, has.both) in
-    let fits : take < KEPT_REQUESTS = omega (arith, has.both) in
-    let count : KEPT_REQUESTS - gone ≡ suc (KEPT_REQUESTS - (gone + 1)) = omega arith in
-    let left = slots_from-more puts client put few in
-    let right = slots_from-more takes client take fits in
     record {
       both = omega (arith, has.both);
-      left = one_more gone _ ∙ (ap (drop 1) has.left ∙ ((λ i. drop 1 (newest_of_two (count i) (left i) (right i))) ∙ (two_after_take (KEPT_REQUESTS - (gone + 1)) (slot_line_at puts client put) (slot_line_at takes client take) (slots_from puts client (put + 1)) (slots_from takes client (take + 1)) (slots_from-empty Queue 0 puts client put are few) less ∙ ap (λ (l : List Kept). newest_of_two (KEPT_REQUESTS - (gone + 1)) l (slots_from takes client (take + 1))) (sym left))));
+      left = one_more gone _ ∙ (ap (drop 1) (left_now puts takes client gone put take (omega arith) has) ∙ (two_after_take (KEPT_REQUESTS - (gone + 1)) (slot_line_at puts client put) (slot_line_at takes client take) (slots_from puts client (put + 1)) (slots_from takes client (take + 1)) (slots_from-empty Queue 0 puts client put are few) less ∙ ap (λ (l : List Kept). newest_of_two (KEPT_REQUESTS - (gone + 1)) l (slots_from takes client (take + 1))) (sym (slots_from-more puts client put few))));
     }
 
 -- a put is next
@@ -409,12 +413,9 @@ pub gone_put : (puts takes : List Line) (client gone put take : ℕ) → AreClie
 gone_put puts takes client gone put take are others inside has most =
     let few : put < KEPT_REQUESTS = omega (arith, has.both) in
     let fits : take < KEPT_REQUESTS = omega (arith, has.both) in
-    let count : KEPT_REQUESTS - gone ≡ suc (KEPT_REQUESTS - (gone + 1)) = omega arith in
-    let left = slots_from-more puts client put few in
-    let right = slots_from-more takes client take fits in
     record {
       both = omega (arith, has.both);
-      left = one_more gone _ ∙ (ap (drop 1) has.left ∙ ((λ i. drop 1 (newest_of_two (count i) (left i) (right i))) ∙ (two_after_put (KEPT_REQUESTS - (gone + 1)) (slot_line_at puts client put) (slot_line_at takes client take) (slots_from puts client (put + 1)) (slots_from takes client (take + 1)) (slots_from-empty Queue 0 puts client put are few) (slots_from-empty Queue 1 takes client take others fits) most ∙ ap (newest_of_two (KEPT_REQUESTS - (gone + 1)) (slots_from puts client (put + 1))) (sym right))));
+      left = one_more gone _ ∙ (ap (drop 1) (left_now puts takes client gone put take (omega arith) has) ∙ (two_after_put (KEPT_REQUESTS - (gone + 1)) (slot_line_at puts client put) (slot_line_at takes client take) (slots_from puts client (put + 1)) (slots_from takes client (take + 1)) (slots_from-empty Queue 0 puts client put are few) (slots_from-empty Queue 1 takes client take others fits) most ∙ ap (newest_of_two (KEPT_REQUESTS - (gone + 1)) (slots_from puts client (put + 1))) (sym (slots_from-more takes client take fits))));
     }
 
 -- the newer one of those that are left comes next
@@ -422,9 +423,6 @@ pub gone_next : (puts takes : List Line) (client gone put take : ℕ) → AreCli
 gone_next puts takes client gone put take are others inside has =
     let few : put < KEPT_REQUESTS = omega (arith, has.both) in
     let fits : take < KEPT_REQUESTS = omega (arith, has.both) in
-    let count : KEPT_REQUESTS - gone ≡ suc (KEPT_REQUESTS - (gone + 1)) = omega arith in
-    let left = slots_from-more puts client put few in
-    let right = slots_from-more takes client take fits in
     let all = newest_of_two KEPT_REQUESTS (kept_in_slots puts client) (kept_in_slots takes client) in
     let here : get_or all gone none_kept ≡ get_or (drop gone all) 0 none_kept = ap (λ (n : ℕ). get_or all n none_kept) (omega arith) ∙ sym (get_or-drop gone all 0 none_kept) in
-    here ∙ (ap (λ (l : List Kept). get_or l 0 none_kept) has.left ∙ ((λ i. get_or (newest_of_two (count i) (left i) (right i)) 0 none_kept) ∙ two_head (KEPT_REQUESTS - (gone + 1)) (slot_line_at puts client put) (slot_line_at takes client take) (slots_from puts client (put + 1)) (slots_from takes client (take + 1)) (empty_slot Queue 0 (kept_in (slot_line_at puts client put)) (are put few).allowed) (slots_from-empty Queue 0 puts client put are few) (slots_from-empty Queue 1 takes client take others fits)))
+    here ∙ (ap (λ (l : List Kept). get_or l 0 none_kept) (left_now puts takes client gone put take inside has) ∙ two_head (KEPT_REQUESTS - (gone + 1)) (slot_line_at puts client put) (slot_line_at takes client take) (slots_from puts client (put + 1)) (slots_from takes client (take + 1)) (empty_slot Queue 0 (kept_in (slot_line_at puts client put)) (are put few).allowed) (slots_from-empty Queue 0 puts client put are few) (slots_from-empty Queue 1 takes client take others fits))

@@ -57,24 +57,25 @@ changes_from-append first before (line ∷ a) b =
 drop-line_at : (before : List Line) (place : ℕ) → line_at (drop 1 before) place ≡ line_at before (suc place)
 drop-line_at before place = get_or-drop 1 before place zero_line ∙ ap (line_at before) (omega arith)
 
+-- lines that lie apart from a piece: the first of them does, and the rest do
+first_apart : (at count first long : ℕ) → (at + count ≤ first) ⊎ (first + suc long ≤ at) → IsApartFrom at count first
+first_apart at count first long (inl before) = inr before
+first_apart at count first long (inr after) = inl (omega arith)
+
+rest_apart : (at count first long : ℕ) → (at + count ≤ first) ⊎ (first + suc long ≤ at) → (at + count ≤ suc first) ⊎ (suc first + long ≤ at)
+rest_apart at count first long (inl before) = inl (omega arith)
+rest_apart at count first long (inr after) = inr (omega arith)
+
 -- they write no other lines
 pub changes-spare : (at count first : ℕ) (before lines : List Line) → (at + count ≤ first) ⊎ (first + length lines ≤ at) → All (Spares at count) (changes_from first before lines)
 changes-spare at count first before [] apart = subst (All (Spares at count)) (sym (changes_from-none first before)) (All-nil (Spares at count))
 changes-spare at count first before (line ∷ lines) apart =
     subst (All (Spares at count)) (sym (changes_from-more first before line lines))
-    (All-append (Spares at count) (change_at first (line_at before 0) line) (changes_from (suc first) (drop 1 before) lines) (one (is_same (line_at before 0) line)) (changes-spare at count (suc first) (drop 1 before) lines (further apart)))
+    (All-append (Spares at count) (change_at first (line_at before 0) line) (changes_from (suc first) (drop 1 before) lines) (one (is_same (line_at before 0) line)) (changes-spare at count (suc first) (drop 1 before) lines (rest_apart at count first (length lines) apart)))
   where
-    further : (at + count ≤ first) ⊎ (first + suc (length lines) ≤ at) → (at + count ≤ suc first) ⊎ (suc first + length lines ≤ at)
-    further (inl before) = inl (omega arith)
-    further (inr after) = inr (omega arith)
-
-    out : (at + count ≤ first) ⊎ (first + suc (length lines) ≤ at) → IsApartFrom at count first
-    out (inl before) = inr before
-    out (inr after) = inl (omega arith)
-
     one : (same : Bool) → All (Spares at count) (if same then [] else Whole first line ∷ [])
     one true = All-nil (Spares at count)
-    one false = All-cons (Spares at count) (Whole first line) [] (out apart) (All-nil (Spares at count))
+    one false = All-cons (Spares at count) (Whole first line) [] (first_apart at count first (length lines) apart) (All-nil (Spares at count))
 
 -- and the lines are there
 pub changes-there : (image : List Line) (first : ℕ) (before lines : List Line) → ((place : ℕ) → place < length lines → line_at image (first + place) ≡ line_at before place) → first + length lines ≤ length image → (place : ℕ) → place < length lines → line_at (contents image (changes_from first before lines)) (first + place) ≡ line_at lines place
@@ -118,15 +119,7 @@ changes-there image first before (line ∷ lines) there fits place inside =
 pub writes-spare : (at count first : ℕ) (lines : List Line) → (at + count ≤ first) ⊎ (first + length lines ≤ at) → All (Spares at count) (writes_from first lines)
 writes-spare at count first [] apart = subst (All (Spares at count)) (sym (writes_from-none first)) (All-nil (Spares at count))
 writes-spare at count first (line ∷ lines) apart =
-    subst (All (Spares at count)) (sym (writes_from-more first line lines)) (All-cons (Spares at count) (Whole first line) (writes_from (suc first) lines) (out apart) (writes-spare at count (suc first) lines (further apart)))
-  where
-    further : (at + count ≤ first) ⊎ (first + suc (length lines) ≤ at) → (at + count ≤ suc first) ⊎ (suc first + length lines ≤ at)
-    further (inl before) = inl (omega arith)
-    further (inr after) = inr (omega arith)
-
-    out : (at + count ≤ first) ⊎ (first + suc (length lines) ≤ at) → IsApartFrom at count first
-    out (inl before) = inr before
-    out (inr after) = inl (omega arith)
+    subst (All (Spares at count)) (sym (writes_from-more first line lines)) (All-cons (Spares at count) (Whole first line) (writes_from (suc first) lines) (first_apart at count first (length lines) apart) (writes-spare at count (suc first) lines (rest_apart at count first (length lines) apart)))
 
 pub over-spare : (at count first : ℕ) (spare : Option (List Line)) (lines : List Line) → (at + count ≤ first) ⊎ (first + length lines ≤ at) → All (Spares at count) (writes_over first spare lines)
 over-spare at count first None lines apart = writes-spare at count first lines apart

@@ -1,5 +1,5 @@
 -- The line of one slot of a client in a record: a recorded request, with the reply.
-use Rattle.std.specs.Prelude.{◌≡◌, ◌⊎◌, ℕ, ◌<◌, ◌≤◌, IsSomeAnd, Contains}
+use Rattle.std.specs.Prelude.{◌≡◌, ◌⊎◌, ℕ, ◌≤◌, IsSomeAnd, Contains}
 use Rattle.pb_pmem.specs.declared.line.Line.{Line}
 use Rattle.pb_pmem.specs.Lines.{line_of}
 use Rattle.pb_object.specs.declared.kind.Kind.{Kind}
@@ -9,7 +9,7 @@ use Rattle.pb_object.specs.declared.request.Kept.{Kept}
 use Rattle.pb_object.specs.declared.request.TheConstants.{LAST_NUMBER}
 use Rattle.pb_object.specs.Codes.{action_of, answer_of, answers_of, value_count}
 use Rattle.pb_object.specs.History.{IsOfSide}
-use Rattle.pb_object.specs.Request.{IsOperation, none_kept}
+use Rattle.pb_object.specs.Request.{IsOperation, none_kept, LeavesReplyZero}
 use Rattle.pb_layout.specs.Header.{word}
 
 -- the line of a kept request: its number, its operation and its reply
@@ -23,11 +23,6 @@ kept_in line = record {
   op = record { code = word line 1; a = word line 2; b = word line 3; c = word line 4 };
   reply = record { code = word line 5; value = word line 6; extra = word line 7 };
 }
-
--- the numbers of a reply after the first so many are 0
-pub record LeavesReplyZero (used : ℕ) (reply : Reply) : Type 0 where
-  pub value : used < 1 → reply.value ≡ 0
-  pub extra : used < 2 → reply.extra ≡ 0
 
 -- a reply that an operation may have: its code is one of the operation's, and the numbers that it doesn't use are 0
 abbrev pub IsReplyTo : Op → Reply → Type 0

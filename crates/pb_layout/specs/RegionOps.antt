@@ -67,13 +67,18 @@ abbrev pub header_words : Header → List LogOp
 header_words head =
     Word 0 1 VERSION ∷ Word 0 2 (kind_code head.kind) ∷ Word 0 3 head.clients ∷ Word 0 4 head.size ∷ Word 0 5 (old_record_length head) ∷ Word 0 6 (old_first_record_line head) ∷ Word 0 7 0 ∷ []
 
--- .. stand after the first records of the sides and the two lines that count rounds, and all of it is given to the device and fenced ..
+-- .. stand after the two lines that count rounds ..
+abbrev pub front_ops : Header → List LogOp
+front_ops head = Whole 1 zero_line ∷ Whole 2 zero_line ∷ header_words head
+
+-- .. and these after the first records of the sides; all of it is given to the device and fenced ..
+abbrev pub write_backs : Header → List LogOp
+write_backs head =
+    Back 0 3 ∷ Back (record_place head 0 0) (record_length head) ∷ ((if side_count head.kind == 2 then Back (record_place head 1 0) (record_length head) ∷ [] else []) ++ Fence ∷ [])
+
 abbrev pub prepare_ops : Header → List Line → List Line → List LogOp
 prepare_ops head first second =
-    writes_from (record_place head 0 0) first ++ (writes_from (record_place head 1 0) second ++ (Whole 1 zero_line ∷ Whole 2 zero_line ∷ (header_words head ++ (Back 0 3 ∷ Back (record_place head 0 0) (record_length head) ∷ (second_back ++ Fence ∷ [])))))
-  where
-    second_back : List LogOp
-    second_back = if side_count head.kind == 2 then Back (record_place head 1 0) (record_length head) ∷ [] else []
+    writes_from (record_place head 0 0) first ++ (writes_from (record_place head 1 0) second ++ (front_ops head ++ write_backs head))
 
 -- .. before the magic makes it a region
 abbrev pub publish_ops : List LogOp

@@ -2,7 +2,8 @@
 ghost use Rattle.std.specs.Prelude.{◌≡◌, ◌↔◌, IsTrue};
 ghost use Rattle.std.specs.Option.{SomeIff};
 ghost use Rattle.pb_object.specs.History.{IsOfSide};
-ghost use Rattle.pb_layout.specs.ClientLine.{client_line_of, kept_in, IsReplyTo, LeavesReplyZero, IsRecorded, IsKept};
+ghost use Rattle.pb_object.specs.Request.{LeavesReplyZero};
+ghost use Rattle.pb_layout.specs.ClientLine.{client_line_of, kept_in, IsReplyTo, IsRecorded, IsKept};
 
 use pb_object::{Action, Answer, Kept, Kind, LAST_NUMBER, Op, Reply, is_operation};
 use pb_pmem::Line;

@@ -22,7 +22,7 @@ use Rattle.pb_layout.specs.Region.{record_place}
 use Rattle.pb_layout.specs.Represents.{record_in_use, record_of_side, newest_of_two, kept_list_by, AreApart, CellsRepresent}
 use Rattle.pb_layout.specs.Recovered.{Represents}
 use Rattle.pb_layout.specs.declared.header.Header.{Header}
-use Rattle.pb_layout.proofs.OneStanding.{few_sides}
+use Rattle.pb_object.proofs.Sides.{few_sides}
 use Rattle.pb_layout.proofs.Records.{piece_is}
 use Rattle.pb_layout.proofs.ChangedRegion.{represents_from_records}
 use Rattle.pb_layout.specs.Exits.{IsEmptyRecord, AreEmptyRecords, records_of, empty_for}

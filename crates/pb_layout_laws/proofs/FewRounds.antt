@@ -1,5 +1,5 @@
 -- Rounds are few: each of them recorded a request, and a client's numbers end at the last one.
-use Rattle.std.proofs.Common.{◌≡◌, ◌≢◌, ℕ, zero, suc, ◌+◌, ◌-◌, ◌*◌, ◌<◌, ◌≤◌, ◌⊎◌, List, [], ◌∷◌, length, subst, sym, refl, inl, inr, arith}
+use Rattle.std.proofs.Common.{◌≡◌, ℕ, zero, suc, ◌+◌, ◌-◌, ◌*◌, ◌<◌, ◌≤◌, ◌⊎◌, List, [], ◌∷◌, length, subst, sym, inl, inr, arith}
 use Rattle.std.specs.List.{All, sum_by}
 use Rattle.std.proofs.lemmas.Bool.{cases_lt}
 use Rattle.std.proofs.lemmas.List.{get_or_past}
@@ -12,9 +12,9 @@ use Rattle.pb_object.specs.Standing.{Standing, keep, kept_list_of, rounds_of, si
 use Rattle.pb_layout.specs.Once.{number_of}
 use Rattle.pb_layout.specs.Record.{number_sum, AreSmall}
 use Rattle.pb_layout.specs.Recovered.{Represents}
-use Rattle.pb_layout.specs.Represents.{header_for, record_of_side, RegionParts, AreRecords}
+use Rattle.pb_layout.specs.Represents.{header_for, record_of_side, AreRecords}
 use Rattle.pb_layout.specs.declared.header.TheConstants.{MOST_CLIENTS}
-use Rattle.pb_layout.proofs.LegalHistories.{KeepsAll, after_entries-keeps}
+use Rattle.pb_layout.proofs.LegalHistories.{KeepsAll, after_entries-keeps, some-long}
 use Rattle.pb_layout.proofs.OneRecovery.{parts, region_records}
 use Rattle.pb_layout.proofs.Records.{are_small, number_sum-none, number_sum-more}
 
@@ -60,14 +60,10 @@ entries_take s side (entry ∷ entries) all legal =
     let rest = entries_take (after_entry s entry) side entries (after_entries-keeps s (entry ∷ []) all) legal.1 in
     omega (arith, one, rest, legal.0.number, legal.0.few)
 
-some_entry : (entries : List Entry) → entries ≢ [] → 1 ≤ length entries
-some_entry [] some = absurd (some refl)
-some_entry (entry ∷ entries) some = omega arith
-
 history_takes : (s : Standing) (history : History) → KeepsAll s → IsLegal s history → length history ≤ room s
 history_takes s [] all legal = omega arith
 history_takes s (round ∷ history) all legal =
-    omega (arith, entries_take s round.side round.entries all legal.0.legal, some_entry round.entries legal.0.some, history_takes (after_round s round) history (after_entries-keeps s round.entries all) legal.1)
+    omega (arith, entries_take s round.side round.entries all legal.0.legal, some-long round.entries legal.0.some, history_takes (after_round s round) history (after_entries-keeps s round.entries all) legal.1)
 
 all_left : (kept : List (List Kept)) → All (λ x. left_to x ≤ LAST_NUMBER) kept
 all_left kept = λ k d inside. omega arith

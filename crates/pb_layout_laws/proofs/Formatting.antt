@@ -29,15 +29,15 @@ use Rattle.pb_layout.specs.declared.header.Header.{Header}
 use Rattle.pb_layout.specs.declared.header.TheConstants.{MAGIC}
 use Rattle.pb_layout.proofs.LogHistories.{history_after-append}
 use Rattle.pb_pmem.specs.Operations.{IsFailedPrefix}
-use Rattle.pb_layout.specs.RegionOps.{prepare_ops, publish_ops, format_ops}
+use Rattle.pb_layout.specs.RegionOps.{prepare_ops, publish_ops, format_ops, write_backs}
 use Rattle.pb_layout.specs.Exits.{IsExit, IsExitPublishing, AreEmptyRecords, empty_for}
 use Rattle.pb_layout_laws.proofs.EmptyRegion.{no_rounds, formed_stands}
 use Rattle.pb_layout_laws.proofs.Entering.{IsOneOf, KeepsSettled, ready_from_bounds, image_from_bounds}
 use Rattle.pb_layout_laws.proofs.Prefixes.{IsCoveredPrefix, covers_by_prefixes}
 use Rattle.pb_layout_laws.proofs.Images.{image_of}
-use Rattle.pb_layout_laws.proofs.WrittenRegion.{HasWritten, Prepared, Formed, giving_bounds, push_three}
+use Rattle.pb_layout_laws.proofs.WrittenRegion.{HasWritten, Prepared, Formed, write_backs_bounds, push_three}
 use Rattle.pb_layout_laws.proofs.WritingRegion.{laying, IsWrittenIn, laid_in}
-use Rattle.pb_layout_laws.proofs.Preparing.{nothing_of_bare, bare_start, nothing_at_start, quiet_front, quiet_leaves, giving, prepare_ops-is, preparing_quiet, laying_quiet}
+use Rattle.pb_layout_laws.proofs.Preparing.{nothing_of_bare, bare_start, nothing_at_start, quiet_front, quiet_leaves, prepare_ops-is, preparing_quiet, laying_quiet}
 use Rattle.pb_layout_laws.proofs.Quiet.{IsQuiet, Bare, quiet-records, quiet-no_sync, quiet-bare, HasGiven, push_write, push_back, push_fence, push_sync}
 use Rattle.pb_layout_laws.proofs.OneUnsealed.{covered_stepwise}
 use Rattle.pb_layout.proofs.Readiness.{at_rest_is_ready}
@@ -213,7 +213,7 @@ pub prepared_bounds : (base : List Line) (log : List LogOp) (head : Header) (fir
 prepared_bounds base log head first second is =
     let lines : List Line = fresh_lines base log head first second in
     let bare = quiet-bare log (laying head first second) (laying_quiet head first second) (bare_start base log (some_lines base is.long) is.ready) in
-    subst (λ (l : List LogOp). Bounds base (reverse l) Bare (Prepared head lines) (Prepared head lines)) (append_assoc log (laying head first second) (giving head) ∙ ap (λ (l : List LogOp). log ++ l) (sym (prepare_ops-is head first second))) (giving_bounds (log ++ laying head first second) head bare)
+    subst (λ (l : List LogOp). Bounds base (reverse l) Bare (Prepared head lines) (Prepared head lines)) (append_assoc log (laying head first second) (write_backs head) ∙ ap (λ (l : List LogOp). log ++ l) (sym (prepare_ops-is head first second))) (write_backs_bounds (log ++ laying head first second) head bare)
 
 magic_in : (lines : List Line) → 0 < length lines → word_of (applied magic_word lines) 0 0 ≡ MAGIC
 magic_in [] some = absurd (omega arith)

@@ -12,7 +12,7 @@ use Rattle.pb_pmem.proofs.Lines.{contents-append}
 use Rattle.pb_object.specs.History.{History}
 use Rattle.pb_layout.specs.LogHistory.{LoggedRound, rounds_in, AreSealed, AreUnsealed, raises_index, backed_by, sealed_by_sync, recorded_by_op, history_after, history_of}
 use Rattle.pb_layout.proofs.LogHistories.{history_after-none, history_after-first, history_after-append}
-use Rattle.pb_layout_laws.proofs.Histories.{SealedAreBacked, rounds_in-append, history_after-backed, history_of-second}
+use Rattle.pb_layout_laws.proofs.Histories.{SealedAreBacked, rounds_in-append, history_after-backed, history_of-second, unsealed-backed_by}
 
 -- what is known of rounds after one more operation
 abbrev pub flagged_op : LogOp → List LoggedRound → List LoggedRound
@@ -94,10 +94,6 @@ pub flagged-sealed : (log : List LogOp) (rounds : List LoggedRound) → AreSeale
 flagged-sealed [] rounds h = subst AreSealed (sym (flagged-none rounds)) h
 flagged-sealed (op ∷ log) rounds h =
     subst AreSealed (sym (flagged-first op log rounds)) (flagged-sealed log (flagged_op op rounds) (sealed-flagged_op op rounds h))
-
-unsealed-backed_by : (first count : ℕ) (rounds : List LoggedRound) → AreUnsealed rounds → AreUnsealed (map (backed_by first count) rounds)
-unsealed-backed_by first count [] h = tt
-unsealed-backed_by first count (logged ∷ rounds) h = (h.0, unsealed-backed_by first count rounds h.1)
 
 unsealed-flagged_op : (op : LogOp) (rounds : List LoggedRound) → is_sync op ≡ false → AreUnsealed rounds → AreUnsealed (flagged_op op rounds)
 unsealed-flagged_op (Whole line to) rounds other h = h

@@ -42,7 +42,7 @@ pub AreUnsealed-append : (a b : List LoggedRound) → AreUnsealed a → AreUnsea
 AreUnsealed-append [] b left right = right
 AreUnsealed-append (logged ∷ a) b left right = (left.0, AreUnsealed-append a b left.1 right)
 
-unsealed-backed_by : (first count : ℕ) (rounds : List LoggedRound) → AreUnsealed rounds → AreUnsealed (map (backed_by first count) rounds)
+pub unsealed-backed_by : (first count : ℕ) (rounds : List LoggedRound) → AreUnsealed rounds → AreUnsealed (map (backed_by first count) rounds)
 unsealed-backed_by first count [] h = tt
 unsealed-backed_by first count (logged ∷ rounds) h = (h.0, unsealed-backed_by first count rounds h.1)
 

@@ -112,19 +112,21 @@ now-past : (base : List Line) (past : List LogOp) (line word : ℕ) → (length 
 now-past base past line word (inl far) = word_of-past (now base past) line word (inl (omega (arith, length-contents base (reverse past))))
 now-past base past line word (inr far) = word_of-past (now base past) line word (inr far)
 
-AtNextMark-within : (base : List Line) (past : List LogOp) (words : Words) → AllAtNextMark base past words → AllAtNextMark base past (within base words)
-AtNextMark-within base past words at_next_mark line word = go (word_of-image_of_or (length base) words line word)
+-- what holds of a word and of its contents holds of the word cut to the lines
+one_within : (base : List Line) (past : List LogOp) (words : Words) (line word : ℕ) (P : ℕ → Type 0) → P (words line word) → P (word_of (now base past) line word) → P (within base words line word)
+one_within base past words line word P here contents_is = go (word_of-image_of_or (length base) words line word)
   where
-    go : (within base words line word ≡ words line word) ⊎ ((within base words line word ≡ 0) × ((length base ≤ line) ⊎ (8 ≤ word))) → AtNextMark base past line word (within base words line word)
-    go (inl same) = subst (λ (x : ℕ). AtNextMark base past line word x) (sym same) (at_next_mark line word)
-    go (inr far) = subst (λ (x : ℕ). AtNextMark base past line word x) (now-past base past line word far.1 ∙ sym far.0) (AtNextMark-now base past line word)
+    go : (within base words line word ≡ words line word) ⊎ ((within base words line word ≡ 0) × ((length base ≤ line) ⊎ (8 ≤ word))) → P (within base words line word)
+    go (inl same) = subst P (sym same) here
+    go (inr far) = subst P (now-past base past line word far.1 ∙ sym far.0) contents_is
+
+AtNextMark-within : (base : List Line) (past : List LogOp) (words : Words) → AllAtNextMark base past words → AllAtNextMark base past (within base words)
+AtNextMark-within base past words at_next_mark line word =
+    one_within base past words line word (AtNextMark base past line word) (at_next_mark line word) (AtNextMark-now base past line word)
 
 Last-within : (base : List Line) (past : List LogOp) (words : Words) → AllLast base past words → AllLast base past (within base words)
-Last-within base past words last line word = go (word_of-image_of_or (length base) words line word)
-  where
-    go : (within base words line word ≡ words line word) ⊎ ((within base words line word ≡ 0) × ((length base ≤ line) ⊎ (8 ≤ word))) → Last base past line word (within base words line word)
-    go (inl same) = subst (λ (x : ℕ). Last base past line word x) (sym same) (last line word)
-    go (inr far) = subst (λ (x : ℕ). Last base past line word x) (now-past base past line word far.1 ∙ sym far.0) (Last-now base past line word)
+Last-within base past words last line word =
+    one_within base past words line word (Last base past line word) (last line word) (Last-now base past line word)
 
 pub Leaves-within : (base : List Line) (past : List LogOp) (words : Words) → Leaves base past words → Leaves base past (within base words)
 Leaves-within base [] words leaves = Leaves-none base (within base words) (Last-within base [] words (Leaves-at_none base words leaves))

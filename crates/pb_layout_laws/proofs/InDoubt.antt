@@ -30,19 +30,19 @@ use Rattle.pb_layout.specs.Recovered.{Represents}
 use Rattle.pb_layout.specs.declared.header.Header.{Header}
 use Rattle.pb_layout.specs.declared.header.TheConstants.{MAGIC}
 use Rattle.pb_layout.proofs.OneRecovery.{parts}
-use Rattle.pb_layout.proofs.LogHistories.{history_after-none, history_after-first, history_after-one}
-use Rattle.pb_layout.proofs.OneStanding.{few_sides}
+use Rattle.pb_layout.proofs.LogHistories.{history_after-none, history_after-first}
+use Rattle.pb_object.proofs.Sides.{few_sides}
 use Rattle.pb_layout.proofs.Readiness.{ready_is_kept, settling_word, allowed_writes_same}
 use Rattle.pb_layout_laws.proofs.Calls.{calls-append, calls-append_sealed}
 use Rattle.pb_layout_laws.proofs.Growing.{flagged, rounds_in-flagged, history_after-flagged, rounds_of-parts}
-use Rattle.pb_layout_laws.proofs.Histories.{history_after-unsealed, history_after-backed}
+use Rattle.pb_layout_laws.proofs.Histories.{history_after-unsealed, history_after-backed, history_of-second}
 use Rattle.pb_layout_laws.proofs.IndexWord.{logged, index_records}
 use Rattle.pb_layout_laws.proofs.OneUnsealed.{covered_stepwise}
-use Rattle.pb_layout_laws.proofs.Prefixes.{IsAsAtStart, IsCoveredPrefix, history_since, covers_by_prefixes}
+use Rattle.pb_layout_laws.proofs.Prefixes.{IsAsAtStart, IsCoveredPrefix, covers_by_prefixes}
 use Rattle.pb_layout_laws.proofs.ReadyWithOne.{Settles, left_before, same_before, one_from_images}
 use Rattle.pb_layout_laws.proofs.Rounds.{next_side, next_header, next_rounds, next_rounds_other}
 use Rattle.pb_layout_laws.proofs.Sealing.{sealed_by_settling, sealed_alone}
-use Rattle.pb_layout_laws.proofs.Settling.{contents-settled, history-settled, IsNoSync, second_words, settling_words, settling_body, settling_of, settling_whole, settling_settles, words_settle, body-no_sync, cut_settling, member_left, given_stands, settling_failing, settling_leaves_one}
+use Rattle.pb_layout_laws.proofs.Settling.{contents-settled, recorded_none, history-settled, IsNoSync, second_words, settling_words, settling_body, settling_of, settling_whole, settling_settles, words_settle, body-no_sync, cut_settling, member_left, given_stands, settling_failing, settling_leaves_one}
 use Rattle.pb_layout_laws.proofs.StoreExits.{word_of-written}
 use Rattle.pb_layout_laws.proofs.Storing.{IsIndex, whole_base}
 
@@ -83,10 +83,6 @@ next_op s round (Word line word to) more (inr never) = absurd never
 next_op s round (Back first count) more settles = inr tt
 next_op s round Fence more settles = inr tt
 next_op s round Sync more settles = inr tt
-
-recorded_none : (s : Standing) (lines : List Line) (op : LogOp) → Represents lines s → Settles s op → recorded_by_op op lines [] ≡ []
-recorded_none s lines op stands settles =
-    sym (history_after-one lines [] op) ∙ history-settled s lines (op ∷ []) stands (All-cons (Settles s) op [] settles (All-nil (Settles s)))
 
 applied_none : (s : Standing) (lines : List Line) (op : LogOp) → Represents lines s → Settles s op → applied op lines ≡ lines
 applied_none s lines op stands settles = applied-same op lines (allowed_writes_same lines (Some s) op stands settles)
@@ -319,7 +315,7 @@ whole_history : {base : List Line} {log : List LogOp} {s : Standing} {round : Ro
 whole_history {base} {log} {s} {round} doubt =
     let next = after_round s round in
     let told = settling_tells doubt (Back 0 3 ∷ Sync ∷ []) (settling_settles next) in
-    sealed_alone (history_after (contents base log) [] (settling_of next)) round told.told (subst AreSealed (history_since base log (settling_of next)) (sealed_by_settling base log (header_for next) (rounds_of next 0) (rounds_of next 1) (length log) (omega arith))) (history_after-backed (contents base log) [] (settling_of next) tt)
+    sealed_alone (history_after (contents base log) [] (settling_of next)) round told.told (subst AreSealed (history_of-second base log (settling_of next)) (sealed_by_settling base log (header_for next) (rounds_of next 0) (rounds_of next 1) (length log) (omega arith))) (history_after-backed (contents base log) [] (settling_of next) tt)
 
 -- The exits
 

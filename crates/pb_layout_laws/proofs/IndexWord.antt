@@ -11,7 +11,7 @@ use Rattle.pb_layout.specs.Recovered.{Represents}
 use Rattle.pb_layout.specs.Represents.{header_for}
 use Rattle.pb_layout.specs.declared.header.Header.{Header}
 use Rattle.pb_layout.proofs.OneRecovery.{parts}
-use Rattle.pb_layout.proofs.OneStanding.{few_sides}
+use Rattle.pb_object.proofs.Sides.{few_sides}
 use Rattle.pb_layout.proofs.Readers.{named_by_line}
 
 -- a round as its index word records it, or later

@@ -26,7 +26,7 @@ use Rattle.pb_layout.specs.Shape.{IsHeader}
 use Rattle.pb_layout.specs.Region.{record_place}
 use Rattle.pb_layout.specs.Represents.{header_for, record_in_use, record_of_side, object_part, object_parts_by, object_parts, newest_of_two, kept_list_by, kept_list, number_at, AreApart, CellsRepresent, with_record, records_with, AreRecords, RegionParts}
 use Rattle.pb_layout.specs.declared.header.Header.{Header}
-use Rattle.pb_layout.proofs.ChangedRegion.{turn, with_here, with_other}
+use Rattle.pb_layout.proofs.ChangedRegion.{own_along, turn, with_here, with_other}
 use Rattle.pb_layout.proofs.Lines.{line_from_words}
 use Rattle.pb_layout.proofs.OneRecovery.{from_parts, region_records}
 use Rattle.pb_layout.proofs.Records.{number_sum-none, number_sum-more}
@@ -491,10 +491,6 @@ next_apart records s round lines stands next queue = are_apart (header_for s) af
 round_at_side : (s : Standing) (round : Round) (x : ℕ) → x ≡ round.side → IsLegalRound s round → length s.rounds ≡ side_count s.kind → rounds_of s round.side + 1 ≡ rounds_of (after_round s round) x
 round_at_side s round x e legal sides = sym (ap (rounds_of (after_round s round)) e ∙ next_rounds s round legal sides)
 
-own_after : (head header : Header) (first second one other : ℕ) (before lines : List Line) → head ≡ header → first ≡ second → one ≡ other → before ≡ lines → IsRecord head first one before → IsRecord header second other lines
-own_after head header first second one other before lines heads sides rounds same own =
-    subst (λ (h : Header). IsRecord h second other lines) heads (subst (λ (n : ℕ). IsRecord head n other lines) sides (subst (λ (n : ℕ). IsRecord head first n lines) rounds (subst (IsRecord head first one) same own)))
-
 pub next_records : (records : ℕ → List Line) (s : Standing) (round : Round) (lines : List Line) → AreRecords records s → IsNextOf records s round lines → AreRecords (with_record records round.side lines) (after_round s round)
 next_records records s round lines stands next =
     let same = next_header s round in
@@ -504,8 +500,8 @@ next_records records s round lines stands next =
       valid = subst (λ (h : Header). IsHeader h) (sym same) stands.valid;
       sides = ap length (next_round_list s round) ∙ (length-set s.rounds round.side (rounds_of s round.side + 1) ∙ (stands.sides ∙ ap side_count (sym kind)));
       own = λ x below. elim (cases_eq x round.side) [
-        | inl e ↦ own_after (header_for s) (header_for (after_round s round)) round.side x (rounds_of s round.side + 1) (rounds_of (after_round s round) x) lines (after x) (sym same) (sym e) (round_at_side s round x e next.legal stands.sides) (sym (with_here records round.side lines x e)) (next_own records s round lines stands next)
-        | inr apart ↦ own_after (header_for s) (header_for (after_round s round)) x x (rounds_of s x) (rounds_of (after_round s round) x) (records x) (after x) (sym same) refl (sym (next_rounds_other s round x apart)) (sym (with_other records round.side lines x apart)) (stands.own x (omega (arith, below, ap side_count kind)))
+        | inl e ↦ own_along (header_for s) (header_for (after_round s round)) round.side x (rounds_of s round.side + 1) (rounds_of (after_round s round) x) lines (after x) (sym same) (sym e) (round_at_side s round x e next.legal stands.sides) (sym (with_here records round.side lines x e)) (next_own records s round lines stands next)
+        | inr apart ↦ own_along (header_for s) (header_for (after_round s round)) x x (rounds_of s x) (rounds_of (after_round s round) x) (records x) (after x) (sym same) refl (sym (next_rounds_other s round x apart)) (sym (with_other records round.side lines x apart)) (stands.own x (omega (arith, below, ap side_count kind)))
       ];
       kind = after_entries-kind_of s round.entries ∙ (stands.kind ∙ sym kind);
       size = after_entries-size_of s round.entries ∙ (stands.size ∙ sym (ap (λ (h : Header). h.size) same));

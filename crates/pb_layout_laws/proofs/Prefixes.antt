@@ -1,5 +1,5 @@
 -- Covering, shown prefix by prefix of what a call did.
-use Rattle.std.proofs.Common.{◌≡◌, ℕ, ◌+◌, ◌-◌, ◌≤◌, ◌⊎◌, false, List, [], ◌++◌, length, take, drop, Option, ap, subst, sym, refl, ◌∙◌, inl, inr, arith}
+use Rattle.std.proofs.Common.{◌≡◌, ℕ, ◌+◌, ◌-◌, ◌≤◌, ◌⊎◌, false, List, [], ◌++◌, length, take, drop, Option, ap, subst, sym, ◌∙◌, inl, inr, arith}
 use Rattle.std.specs.List.{list_any}
 use Rattle.std.proofs.Math.Seq.{take-append_seam, take-append-add, drop-append_seam}
 use Rattle.std.proofs.lemmas.List.{take_all, length-append}
@@ -14,6 +14,7 @@ use Rattle.pb_layout.specs.Damage.{HasRegion}
 use Rattle.pb_layout.specs.LogHistory.{LoggedRound, rounds_in, history_after, history_of}
 use Rattle.pb_layout.specs.Ready.{ImageRepresents}
 use Rattle.pb_layout.specs.Recovered.{Represents}
+use Rattle.pb_layout_laws.proofs.Histories.{history_of-second}
 
 -- an image that represents what one at the call's start represented
 pub record IsAsAtStart (base : List Line) (log : List LogOp) (image : List Line) : Type 0 where
@@ -28,11 +29,6 @@ abbrev pub IsCoveredPrefix : List Line → List LogOp → Standing → List LogO
 IsCoveredPrefix base log s prefix =
     (image : List Line) → IsCrashImage base (log ++ prefix) image → IsCoveredBy s (history_after (contents base log) [] prefix) image ⊎ ((list_any is_sync prefix ≡ false) × IsAsAtStart base log image)
 
--- the history since a call's start goes by what the call did
-pub history_since : (base : List Line) (log ops : List LogOp) → history_of base (log ++ ops) (length log) ≡ history_after (contents base log) [] ops
-history_since base log ops =
-    rw (take-append_seam log ops, drop-append_seam log ops) refl
-
 -- what the device holds in the end: the state after the history, or nothing as before
 abbrev pub EndsAs : List Line → List LogOp → List LogOp → Standing → List LoggedRound → Type 0
 EndsAs base log ops s history =
@@ -41,7 +37,7 @@ EndsAs base log ops s history =
 pub covers_by_prefixes : (base : List Line) (log ops : List LogOp) (s : Standing) (history : List LoggedRound) → history ≡ history_after (contents base log) [] ops → ((count : ℕ) → IsCoveredPrefix base log s (take count ops)) → EndsAs base log ops s history → Covers base (log ++ ops) (length log) s history
 covers_by_prefixes base log ops s history told prefixes end = record {
   within = omega (arith, length-append log ops);
-  told = told ∙ sym (history_since base log ops);
+  told = told ∙ sym (history_of-second base log ops);
   images = λ moment low high image left. at moment low high image left;
   end = elim end [
     | inl stands ↦ inl stands
@@ -56,7 +52,7 @@ covers_by_prefixes base log ops s history told prefixes end = record {
     at : (moment : ℕ) → length log ≤ moment → moment ≤ length (log ++ ops) → (image : List Line) → IsCrashImageAt base (log ++ ops) moment image → IsCoveredBy s (history_of base (take moment (log ++ ops)) (length log)) image ⊎ (HasNoSync (length log) moment (log ++ ops) × IsAsBefore base (log ++ ops) (length log) image)
     at moment low high image left =
         elim (prefixes (moment - length log) image (subst (λ (l : List LogOp). IsCrashImage base l image) prefix left)) [
-          | inl covered ↦ inl (subst (λ (h : List LoggedRound). IsCoveredBy s h image) (sym (ap (λ (l : List LogOp). history_of base l (length log)) prefix ∙ history_since base log (take (moment - length log) ops))) covered)
+          | inl covered ↦ inl (subst (λ (h : List LoggedRound). IsCoveredBy s h image) (sym (ap (λ (l : List LogOp). history_of base l (length log)) prefix ∙ history_of-second base log (take (moment - length log) ops))) covered)
           | inr as_start ↦ inr (
             ap (λ (l : List LogOp). list_any is_sync (drop (length log) l)) prefix ∙ (ap (list_any is_sync) (drop-append_seam log (take (moment - length log) ops)) ∙ as_start.0),
             record {

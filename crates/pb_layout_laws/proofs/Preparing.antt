@@ -24,13 +24,13 @@ use Rattle.pb_layout.specs.Ready.{ImageRepresentsOne, IsReady}
 use Rattle.pb_layout.specs.Region.{record_place}
 use Rattle.pb_layout.specs.declared.header.Header.{Header}
 use Rattle.pb_pmem.specs.Operations.{IsFailedPrefix, writes_from}
-use Rattle.pb_layout.specs.RegionOps.{header_words, prepare_ops}
+use Rattle.pb_layout.specs.RegionOps.{header_words, prepare_ops, front_ops, write_backs}
 use Rattle.pb_layout.specs.Exits.{IsExit, AreEmptyRecords, empty_for}
 use Rattle.pb_layout_laws.proofs.Entering.{ready_bounds, IsOneOf, ready_from_bounds, image_from_bounds}
 use Rattle.pb_layout_laws.proofs.Prefixes.{IsCoveredPrefix, covers_by_prefixes}
 use Rattle.pb_layout_laws.proofs.Geometry.{record_after}
 use Rattle.pb_layout_laws.proofs.Images.{image_of, word_of-image_of}
-use Rattle.pb_layout_laws.proofs.WritingRegion.{laying, fronting}
+use Rattle.pb_layout_laws.proofs.WritingRegion.{laying}
 use Rattle.pb_layout_laws.proofs.Quiet.{IsQuiet, Bare, quiet-records, quiet-no_sync, quiet-bare, cut_off-quiet}
 use Rattle.pb_layout_laws.proofs.OneUnsealed.{covered_stepwise}
 use Rattle.pb_pmem.proofs.WrittenLines.{writes_from-none, writes_from-more}
@@ -97,15 +97,10 @@ quiet_leaves base log ops s some ready quiet = record {
 
 -- What preparing does
 
--- the given lines of a fresh region, and the fence
-abbrev pub giving : Header → List LogOp
-giving head =
-    Back 0 3 ∷ Back (record_place head 0 0) (record_length head) ∷ ((if side_count head.kind == 2 then Back (record_place head 1 0) (record_length head) ∷ [] else []) ++ Fence ∷ [])
-
 -- preparing is all the writes but the magic, and then that
-pub prepare_ops-is : (head : Header) (first second : List Line) → prepare_ops head first second ≡ laying head first second ++ giving head
+pub prepare_ops-is : (head : Header) (first second : List Line) → prepare_ops head first second ≡ laying head first second ++ write_backs head
 prepare_ops-is head first second =
-    sym (append_assoc (writes_from (record_place head 0 0) first) (writes_from (record_place head 1 0) second ++ fronting head) (giving head) ∙ ap (λ (l : List LogOp). writes_from (record_place head 0 0) first ++ l) (append_assoc (writes_from (record_place head 1 0) second) (fronting head) (giving head)))
+    sym (append_assoc (writes_from (record_place head 0 0) first) (writes_from (record_place head 1 0) second ++ front_ops head) (write_backs head) ∙ ap (λ (l : List LogOp). writes_from (record_place head 0 0) first ++ l) (append_assoc (writes_from (record_place head 1 0) second) (front_ops head) (write_backs head)))
 
 writes_quiet : (first : ℕ) (lines : List Line) → first ≢ 0 → All IsQuiet (writes_from first lines)
 writes_quiet first [] after = subst (All IsQuiet) (sym (writes_from-none first)) (All-nil IsQuiet)
@@ -131,28 +126,28 @@ header_quiet head =
     let two = word_quiet 2 (kind_code head.kind) from_three (λ e. omega (arith, e)) three in
     word_quiet 1 VERSION from_two (λ e. omega (arith, e)) two
 
-fronting_quiet : (head : Header) → All IsQuiet (fronting head)
-fronting_quiet head =
+front_ops_quiet : (head : Header) → All IsQuiet (front_ops head)
+front_ops_quiet head =
     All-cons IsQuiet (Whole 1 zero_line) (Whole 2 zero_line ∷ header_words head) (λ e. omega (arith, e)) (All-cons IsQuiet (Whole 2 zero_line) (header_words head) (λ e. omega (arith, e)) (header_quiet head))
 
 -- the writes are quiet
 pub laying_quiet : (head : Header) (first second : List Line) → All IsQuiet (laying head first second)
 laying_quiet head first second =
-    All-append IsQuiet (writes_from (record_place head 0 0) first) (writes_from (record_place head 1 0) second ++ fronting head) (writes_quiet (record_place head 0 0) first (λ e. omega (arith, e, record_after head 0 0))) (All-append IsQuiet (writes_from (record_place head 1 0) second) (fronting head) (writes_quiet (record_place head 1 0) second (λ e. omega (arith, e, record_after head 1 0))) (fronting_quiet head))
+    All-append IsQuiet (writes_from (record_place head 0 0) first) (writes_from (record_place head 1 0) second ++ front_ops head) (writes_quiet (record_place head 0 0) first (λ e. omega (arith, e, record_after head 0 0))) (All-append IsQuiet (writes_from (record_place head 1 0) second) (front_ops head) (writes_quiet (record_place head 1 0) second (λ e. omega (arith, e, record_after head 1 0))) (front_ops_quiet head))
 
 backs_quiet : (two : Bool) (first count : ℕ) → All IsQuiet ((if two then Back first count ∷ [] else []) ++ Fence ∷ [])
 backs_quiet true first count = All-cons IsQuiet (Back first count) (Fence ∷ []) tt (All-cons IsQuiet Fence [] tt (All-nil IsQuiet))
 backs_quiet false first count = All-cons IsQuiet Fence [] tt (All-nil IsQuiet)
 
-giving_quiet : (head : Header) → All IsQuiet (giving head)
-giving_quiet head =
+write_backs_quiet : (head : Header) → All IsQuiet (write_backs head)
+write_backs_quiet head =
     let rest : List LogOp = (if side_count head.kind == 2 then Back (record_place head 1 0) (record_length head) ∷ [] else []) ++ Fence ∷ [] in
     All-cons IsQuiet (Back 0 3) (Back (record_place head 0 0) (record_length head) ∷ rest) tt (All-cons IsQuiet (Back (record_place head 0 0) (record_length head)) rest tt (backs_quiet (side_count head.kind == 2) (record_place head 1 0) (record_length head)))
 
 -- all of it is quiet
 pub preparing_quiet : (head : Header) (first second : List Line) → All IsQuiet (prepare_ops head first second)
 preparing_quiet head first second =
-    subst (All IsQuiet) (sym (prepare_ops-is head first second)) (All-append IsQuiet (laying head first second) (giving head) (laying_quiet head first second) (giving_quiet head))
+    subst (All IsQuiet) (sym (prepare_ops-is head first second)) (All-append IsQuiet (laying head first second) (write_backs head) (laying_quiet head first second) (write_backs_quiet head))
 
 -- formatting that is cut off before its magic is called leaves no region
 pub cut_off_while_preparing : (base : List Line) (log ops : List LogOp) (head : Header) (first second : List Line) → IsHeader head → length base ≡ LINES → AreEmptyRecords head first second → IsReady base log (None ∷ []) → IsFailedPrefix (prepare_ops head first second) ops → IsExit base log ops (empty_for head) [] (None ∷ [])

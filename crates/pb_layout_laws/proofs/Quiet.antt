@@ -15,7 +15,6 @@ use Rattle.pb_pmem.proofs.Bounds.{Bounds-write, Bounds-Back, Bounds-Fence, Bound
 use Rattle.pb_layout.specs.LogHistory.{LoggedRound, recorded_by_op, history_after}
 use Rattle.pb_layout.specs.declared.header.TheConstants.{MAGIC}
 use Rattle.pb_layout.proofs.LogHistories.{history_after-none, history_after-first}
-use Rattle.pb_pmem.specs.Device.{MayAdd}
 use Rattle.pb_pmem.specs.Operations.{IsFailedPrefix}
 use Rattle.pb_layout_laws.proofs.CutOff.{added_has, cut_off_keeps}
 

@@ -27,7 +27,7 @@ use Rattle.pb_layout.specs.Recovered.{Represents}
 use Rattle.pb_layout.specs.Represents.{header_for}
 use Rattle.pb_layout.specs.declared.header.TheConstants.{MAGIC}
 use Rattle.pb_layout.proofs.LogHistories.{history_after-none, history_after-first}
-use Rattle.pb_layout.proofs.OneStanding.{few_sides}
+use Rattle.pb_object.proofs.Sides.{few_sides}
 use Rattle.pb_layout.proofs.Readiness.{ready_is_kept, settling_word, allowed_writes_same}
 use Rattle.pb_pmem.specs.Operations.{IsFailedPrefix}
 use Rattle.pb_pmem.specs.Device.{MayAdd}

@@ -20,8 +20,7 @@ use Rattle.pb_object.specs.Standing.{Standing, side_count, rounds_of}
 use Rattle.pb_layout.specs.Shape.{IsHeader}
 use Rattle.pb_layout.specs.Header.{record_length}
 use Rattle.pb_layout.specs.declared.header.Header.{Header}
-use Rattle.pb_object.specs.declared.kind.Kind.{Kind}
-use Rattle.pb_object.specs.declared.kind.Kind.TheVariants.{Map, Stack, Heap, Queue}
+use Rattle.pb_object.specs.declared.kind.Kind.TheVariants.{Queue}
 use Rattle.pb_layout_laws.proofs.Rounds.{after_entries-kind_of}
 use Rattle.pb_layout.specs.LogHistory.{recorded_by_op, history_after}
 use Rattle.pb_layout.specs.Region.{cell_place}
@@ -140,12 +139,6 @@ cells_kept base head first count (Items size items) before image low differs hol
 cells_kept base head first count (Rising size items) before image low differs hold = tt
 cells_kept base head first count (Waits size queue) before image low differs hold =
     λ place inside. line_kept base first count (cell_place head (queue.taken + place)) before image (low (queue.taken + place) refl).0 (low (queue.taken + place) refl).1 differs ∙ hold place inside
-
-pub sides_few : (kind : Kind) (side : ℕ) → side < side_count kind → side < 2
-sides_few Map side here = omega arith
-sides_few Stack side here = omega arith
-sides_few Heap side here = omega arith
-sides_few Queue side here = omega arith
 
 pub keeps_cells : (base : List Line) (s : Standing) (round : Round) (count : ℕ) → length base ≡ LINES → IsHeader (header_for s) → kind_of s.state ≡ s.kind → round.side < side_count s.kind → KeepsOutside (place_of s round) count (HasNextCells base s round)
 keeps_cells base s round count long valid kind here before image hold differs =

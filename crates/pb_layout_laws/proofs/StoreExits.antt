@@ -22,6 +22,7 @@ use Rattle.pb_object.specs.History.{Round, after_round, state_after}
 use Rattle.pb_object.specs.Standing.{Standing, rounds_of}
 use Rattle.pb_layout.specs.Covers.{IsCoveredBy, Covers}
 use Rattle.pb_object.specs.ObjectLines.{kind_of}
+use Rattle.pb_object.proofs.Sides.{sides_few}
 use Rattle.pb_layout.specs.Shape.{IsHeader}
 use Rattle.pb_layout.specs.Header.{record_length}
 use Rattle.pb_layout.specs.LogHistory.{LoggedRound, rounds_in, round_at, recorded_by_op, history_after}
@@ -47,7 +48,7 @@ use Rattle.pb_layout_laws.proofs.UnusedLines.{unused_covered, writing_unused_fai
 use Rattle.pb_layout_laws.proofs.IndexWord.{logged, index_records}
 use Rattle.pb_layout_laws.proofs.NextEntries.{next_round}
 use Rattle.pb_layout_laws.proofs.Rounds.{next_side, next_rounds, next_rounds_other}
-use Rattle.pb_layout_laws.proofs.Staging.{quiet_fenced, quiet_history, quiet_lines, place_of, sides_few}
+use Rattle.pb_layout_laws.proofs.Staging.{quiet_fenced, quiet_history, quiet_lines, place_of}
 use Rattle.pb_layout_laws.proofs.OneUnsealed.{covered_stepwise}
 use Rattle.pb_layout_laws.proofs.Storing.{IsStore, IsStoreBy, begun, of_all_lines, place_fits, store_stands, store_parts, IsStaged, IsIndex, IsCommitting, IsCommitted, contents_fenced, staged_bounds}
 use Rattle.pb_layout_laws.proofs.Switching.{old_word, settling_round, turned_new, turning_two}

@@ -9,6 +9,7 @@ use Rattle.pb_pmem.specs.Past.{Words}
 use Rattle.pb_object.specs.History.{Round, after_round}
 use Rattle.pb_object.specs.Object.{State, Registers, Items, Rising, Waits}
 use Rattle.pb_object.specs.Standing.{Standing, side_count, rounds_of}
+use Rattle.pb_object.proofs.Sides.{sides_few}
 use Rattle.pb_layout.specs.Shape.{IsHeader}
 use Rattle.pb_layout.specs.Header.{record_length}
 use Rattle.pb_layout.specs.Ready.{IsSettlingWord}
@@ -25,7 +26,7 @@ use Rattle.pb_layout_laws.proofs.Geometry.{records_apart, record_after, parity-l
 use Rattle.pb_layout_laws.proofs.Images.{image_of, length-image_of, line_in, line_in-is, line_in-same, line_at-image_of, word_of-image_of}
 use Rattle.pb_layout_laws.proofs.NextRecord.{IsSwitched, next_stands}
 use Rattle.pb_layout_laws.proofs.Rounds.{next_side}
-use Rattle.pb_layout_laws.proofs.Staging.{IsOld, place_of, sides_few}
+use Rattle.pb_layout_laws.proofs.Staging.{IsOld, place_of}
 use Rattle.pb_layout_laws.proofs.Storing.{IsStore, store_parts, IsInOwnRecord, IsIndex, IsCommitting, IsCommitted, cell_fits}
 
 -- where settling writes

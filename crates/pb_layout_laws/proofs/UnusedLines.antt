@@ -1,17 +1,16 @@
 -- Calls that write no line in use.
-use Rattle.std.proofs.Common.{◌≡◌, ℕ, ◌<◌, ◌≤◌, false, List, [], ◌∷◌, ◌++◌, All, take, Some, ap, subst, sym, refl, ◌∙◌, inl, arith}
+use Rattle.std.proofs.Common.{◌≡◌, ℕ, ◌<◌, ◌≤◌, false, List, [], ◌∷◌, ◌++◌, All, take, Some, ap, sym, refl, ◌∙◌, inl, arith}
 use Rattle.std.proofs.lemmas.Bool.Decides.{nat_tests}
 use Rattle.std.proofs.lemmas.List.Elements.{All-head, All-tail, All-take}
 use Rattle.pb_pmem.specs.declared.line.Line.{Line}
 use Rattle.pb_pmem.specs.declared.log.LogOp.{LogOp}
 use Rattle.pb_pmem.specs.declared.log.LogOp.TheVariants.{Whole, Word, Back, Fence, Sync}
 use Rattle.pb_pmem.specs.Contents.{applied, contents}
-use Rattle.pb_pmem.specs.Device.{MayAdd}
 use Rattle.pb_pmem.specs.Operations.{IsFailedPrefix}
 use Rattle.pb_pmem.proofs.CrashLaws.{IsCrashImage-contents}
 use Rattle.pb_object.specs.Standing.{Standing}
 use Rattle.pb_layout.specs.Exits.{AllImagesRepresent, IsExit}
-use Rattle.pb_layout.specs.InUse.{IsInUse, IsOutside}
+use Rattle.pb_layout.specs.InUse.{IsOutside}
 use Rattle.pb_layout.specs.LogHistory.{LoggedRound, raises_index, recorded_by_op, history_after}
 use Rattle.pb_layout.specs.Ready.{IsReady}
 use Rattle.pb_layout.proofs.LogHistories.{history_after-none, history_after-first}

@@ -3,7 +3,6 @@ use Rattle.std.proofs.Common.{◌≡◌, ℕ, zero, suc, ◌+◌, ◌<◌, ◌�
 use Rattle.pb_pmem.specs.declared.line.Line.{Line}
 use Rattle.pb_pmem.specs.declared.line.TheConstants.{LINES}
 use Rattle.pb_pmem.specs.declared.log.LogOp.{LogOp}
-use Rattle.pb_pmem.specs.declared.log.LogOp.TheVariants.{Whole}
 use Rattle.pb_pmem.specs.Contents.{contents}
 use Rattle.pb_pmem.specs.Lines.{line_at, word_of, with_word, zero_line}
 use Rattle.pb_pmem.proofs.Lines.{contents-append, length-contents}
@@ -19,7 +18,7 @@ use Rattle.pb_layout.specs.declared.header.Header.{Header}
 use Rattle.pb_layout.proofs.Lines.{eight_words}
 use Rattle.pb_layout.proofs.OneRecovery.{record_fits}
 use Rattle.pb_pmem.specs.Operations.{writes_from}
-use Rattle.pb_layout.specs.RegionOps.{header_words}
+use Rattle.pb_layout.specs.RegionOps.{front_ops}
 use Rattle.pb_layout.specs.Exits.{AreEmptyRecords}
 use Rattle.pb_pmem.proofs.WrittenLines.{line_at-writes_other, line_at-writes_here}
 use Rattle.pb_layout_laws.proofs.Geometry.{record_after}
@@ -53,10 +52,6 @@ unfolding set_all
 word-with_header line head word some few =
     ap (λ (xs : List ℕ). get_or (set_all xs head) word 0) (eight_words line.words line.eight) ∙ header_word (get_or line.words 0 0) (get_or line.words 1 0) (get_or line.words 2 0) (get_or line.words 3 0) (get_or line.words 4 0) (get_or line.words 5 0) (get_or line.words 6 0) (get_or line.words 7 0) head word some few
 
--- the two lines that count rounds, and the header's words
-abbrev pub fronting : Header → List LogOp
-fronting head = Whole 1 zero_line ∷ Whole 2 zero_line ∷ header_words head
-
 -- what the first three lines hold then; the others stay
 pub record IsPrefixed (head : Header) (before lines : List Line) : Type 0 where
   pub header : (word : ℕ) → 0 < word → word < 8 → word_of lines 0 word ≡ slice_index (header_line_of head).words word
@@ -64,9 +59,9 @@ pub record IsPrefixed (head : Header) (before lines : List Line) : Type 0 where
   pub second : line_at lines 2 ≡ zero_line
   pub others : (line : ℕ) → 3 ≤ line → line_at lines line ≡ line_at before line
 
-contents-fronting : (head : Header) (l0 l1 l2 : Line) (lines : List Line) → contents (l0 ∷ l1 ∷ l2 ∷ lines) (fronting head) ≡ with_header l0 head ∷ zero_line ∷ zero_line ∷ lines
+contents-front_ops : (head : Header) (l0 l1 l2 : Line) (lines : List Line) → contents (l0 ∷ l1 ∷ l2 ∷ lines) (front_ops head) ≡ with_header l0 head ∷ zero_line ∷ zero_line ∷ lines
 unfolding contents
-contents-fronting head l0 l1 l2 lines = refl
+contents-front_ops head l0 l1 l2 lines = refl
 
 is_fronted : (head : Header) (l0 l1 l2 : Line) (lines : List Line) → IsPrefixed head (l0 ∷ l1 ∷ l2 ∷ lines) (with_header l0 head ∷ zero_line ∷ zero_line ∷ lines)
 is_fronted head l0 l1 l2 lines = record {
@@ -83,19 +78,19 @@ is_fronted head l0 l1 l2 lines = record {
     others (suc (suc (suc line))) after = refl
 
 -- they hold that after these operations
-pub fronted : (head : Header) (before : List Line) → 3 ≤ length before → IsPrefixed head before (contents before (fronting head))
+pub fronted : (head : Header) (before : List Line) → 3 ≤ length before → IsPrefixed head before (contents before (front_ops head))
 fronted head [] long = absurd (omega arith)
 fronted head (l0 ∷ []) long = absurd (omega arith)
 fronted head (l0 ∷ l1 ∷ []) long = absurd (omega arith)
 fronted head (l0 ∷ l1 ∷ l2 ∷ lines) long =
-    subst (IsPrefixed head (l0 ∷ l1 ∷ l2 ∷ lines)) (sym (contents-fronting head l0 l1 l2 lines)) (is_fronted head l0 l1 l2 lines)
+    subst (IsPrefixed head (l0 ∷ l1 ∷ l2 ∷ lines)) (sym (contents-front_ops head l0 l1 l2 lines)) (is_fronted head l0 l1 l2 lines)
 
 -- A fresh region
 
 -- all writes of a fresh region but the magic
 abbrev pub laying : Header → List Line → List Line → List LogOp
 laying head first second =
-    writes_from (record_place head 0 0) first ++ (writes_from (record_place head 1 0) second ++ fronting head)
+    writes_from (record_place head 0 0) first ++ (writes_from (record_place head 1 0) second ++ front_ops head)
 
 -- what lines hold where a fresh region is laid
 pub record IsWrittenIn (head : Header) (first second lines : List Line) : Type 0 where
@@ -122,9 +117,9 @@ laid_in head first second a valid empty long = subst (IsWrittenIn head first sec
     c : List Line
     c = contents b (writes_from (record_place head 1 0) second)
 
-    whole : contents a (laying head first second) ≡ contents c (fronting head)
+    whole : contents a (laying head first second) ≡ contents c (front_ops head)
     whole =
-        contents-append a (writes_from (record_place head 0 0) first) (writes_from (record_place head 1 0) second ++ fronting head) ∙ contents-append b (writes_from (record_place head 1 0) second) (fronting head)
+        contents-append a (writes_from (record_place head 0 0) first) (writes_from (record_place head 1 0) second ++ front_ops head) ∙ contents-append b (writes_from (record_place head 1 0) second) (front_ops head)
 
     long_b : length b ≡ LINES
     long_b = length-contents a (writes_from (record_place head 0 0) first) ∙ long
@@ -132,7 +127,7 @@ laid_in head first second a valid empty long = subst (IsWrittenIn head first sec
     long_c : length c ≡ LINES
     long_c = length-contents b (writes_from (record_place head 1 0) second) ∙ long_b
 
-    prefix : IsPrefixed head c (contents c (fronting head))
+    prefix : IsPrefixed head c (contents c (front_ops head))
     prefix = fronted head c (omega (arith, long_c))
 
     some : 0 < side_count head.kind
@@ -141,7 +136,7 @@ laid_in head first second a valid empty long = subst (IsWrittenIn head first sec
       | inr two ↦ omega (arith, two)
     ]
 
-    laid : IsWrittenIn head first second (contents c (fronting head))
+    laid : IsWrittenIn head first second (contents c (front_ops head))
     laid = record {
       header = prefix.header;
       first_round = prefix.first;

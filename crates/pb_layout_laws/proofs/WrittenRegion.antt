@@ -1,5 +1,5 @@
 -- A fresh region that is laid: what a crash leaves of it, before its magic is there and after it.
-use Rattle.std.proofs.Common.{◌≡◌, ◌≢◌, ℕ, ◌+◌, ◌<◌, ◌≤◌, ◌⊎◌, Bool, true, false, ◌==◌, List, [], ◌∷◌, ◌++◌, reverse, if◌then◌else◌, ap, subst, refl, ◌∙◌, inl, inr, arith}
+use Rattle.std.proofs.Common.{◌≡◌, ◌≢◌, ℕ, ◌<◌, ◌≤◌, ◌⊎◌, Bool, true, false, ◌==◌, List, [], ◌∷◌, ◌++◌, reverse, if◌then◌else◌, ap, subst, refl, ◌∙◌, inl, inr, arith}
 use Rattle.std.proofs.lemmas.Bool.{false≢true}
 use Rattle.std.proofs.lemmas.Bool.Decides.{nat_tests}
 use Rattle.std.proofs.lemmas.List.{append_assoc}
@@ -16,18 +16,15 @@ use Rattle.pb_layout.specs.Header.{record_length}
 use Rattle.pb_layout.specs.Region.{record_place}
 use Rattle.pb_layout.specs.declared.header.Header.{Header}
 use Rattle.pb_layout.specs.declared.header.TheConstants.{MAGIC}
-use Rattle.pb_layout.proofs.OneStanding.{few_sides}
-use Rattle.pb_layout_laws.proofs.Preparing.{giving}
+use Rattle.pb_object.proofs.Sides.{few_sides}
 use Rattle.pb_layout_laws.proofs.Quiet.{Bare, HasGiven, push_back, push_fence}
-
--- a line is one of so many from the first on
-abbrev pub IsBetween : ℕ → ℕ → ℕ → Type 0
-IsBetween first count line = (first ≤ line) × (line < first + count)
+use Rattle.pb_layout.specs.RegionOps.{write_backs}
+use Rattle.pb_layout.specs.Stages.{IsLineFrom}
 
 -- a line of a fresh region: of its prefix, or of the first record of a side
 abbrev pub IsFreshLine : Header → ℕ → Type 0
 IsFreshLine head line =
-    (line < 3) ⊎ (IsBetween (record_place head 0 0) (record_length head) line ⊎ ((1 < side_count head.kind) × IsBetween (record_place head 1 0) (record_length head) line))
+    (line < 3) ⊎ (IsLineFrom (record_place head 0 0) (record_length head) line ⊎ ((1 < side_count head.kind) × IsLineFrom (record_place head 1 0) (record_length head) line))
 
 -- a word of it but the magic is as in these lines
 abbrev pub HasWritten : Header → List Line → Words → Type 0
@@ -47,7 +44,7 @@ Given lines Here words = Bare words × ((line word : ℕ) → Here line → word
 
 -- one of these lines, or of so many more
 abbrev pub OrBetween : (ℕ → Type 0) → ℕ → ℕ → ℕ → Type 0
-OrBetween Here first count line = Here line ⊎ IsBetween first count line
+OrBetween Here first count line = Here line ⊎ IsLineFrom first count line
 
 -- a `Back` gives more lines
 back_given : {base : List Line} {A T : Words → Type 0} (log : List LogOp) (lines : List Line) (Here : ℕ → Type 0) (first count : ℕ) → contents base log ≡ lines → Bounds base (reverse log) A T (Given lines Here) → Bounds base (reverse (log ++ Back first count ∷ [])) A T (Given lines (OrBetween Here first count))
@@ -106,8 +103,8 @@ laid_of_second head lines words given = (given.0, at)
     at line word (inr (inl first)) other = given.1 line word (inl (inr first))
     at line word (inr (inr second)) other = given.1 line word (inr second.1)
 
-giving_bounds_by : {base : List Line} (log : List LogOp) (head : Header) (two : Bool) → (1 < side_count head.kind → two ≡ true) → Bounds base (reverse log) Bare Bare Bare → Bounds base (reverse (log ++ giving_by head two)) Bare (Prepared head (contents base log)) (Prepared head (contents base log))
-giving_bounds_by {base} log head two tells bounds = go two tells
+write_backs_bounds_by : {base : List Line} (log : List LogOp) (head : Header) (two : Bool) → (1 < side_count head.kind → two ≡ true) → Bounds base (reverse log) Bare Bare Bare → Bounds base (reverse (log ++ giving_by head two)) Bare (Prepared head (contents base log)) (Prepared head (contents base log))
+write_backs_bounds_by {base} log head two tells bounds = go two tells
   where
     lines : List Line
     lines = contents base log
@@ -151,6 +148,6 @@ two_sides : (count : ℕ) → count ≤ 2 → 1 < count → (count == 2) ≡ tru
 two_sides count few more = grind (arith, nat_tests)
 
 -- after the given lines and the fence, what the greatest cut allows is the fresh region without its magic
-pub giving_bounds : {base : List Line} (log : List LogOp) (head : Header) → Bounds base (reverse log) Bare Bare Bare → Bounds base (reverse (log ++ giving head)) Bare (Prepared head (contents base log)) (Prepared head (contents base log))
-giving_bounds log head bounds =
-    giving_bounds_by log head (side_count head.kind == 2) (two_sides (side_count head.kind) (few_sides head.kind)) bounds
+pub write_backs_bounds : {base : List Line} (log : List LogOp) (head : Header) → Bounds base (reverse log) Bare Bare Bare → Bounds base (reverse (log ++ write_backs head)) Bare (Prepared head (contents base log)) (Prepared head (contents base log))
+write_backs_bounds log head bounds =
+    write_backs_bounds_by log head (side_count head.kind == 2) (two_sides (side_count head.kind) (few_sides head.kind)) bounds

@@ -1,11 +1,11 @@
-ghost use Rattle.std.specs.Prelude.{◌≡◌, ℕ, ◌+◌, ◌*◌, ◌/◌, ◌<◌, ◌≤◌, ◌↔◌, length, IsTrue, MatchOption, MatchResult};
-ghost use Rattle.pb_map.specs.Registers.{AreRegisters};
+ghost use Rattle.std.specs.Prelude.{◌≡◌, ◌≢◌, ℕ, ◌+◌, ◌*◌, ◌/◌, ◌<◌, ◌≤◌, ◌↔◌, length, IsTrue, MatchOption, MatchResult};
+ghost use Rattle.pb_map.specs.Registers.{AreRegisters, BringsUpToDate};
 ghost use Rattle.pb_object.specs.Map.{register_at};
 ghost use Rattle.pb_object.specs.MapLines.{register_in, IsRegisterAt, IsMapLine};
 ghost use Rattle.pb_object.specs.Object.{Registers};
 ghost use Rattle.pb_object.specs.ObjectLines.{LinesRepresent, IsFirstRefused};
 
-use pb_object::{Kind, LAST_VERSION, NotAState, Register, put_register, register_in};
+use pb_object::{Ask, Kind, LAST_VERSION, NotAState, Register, put_register, register_in};
 use pb_pmem::Line;
 
 /// Writes the lines that represent registers.
@@ -16,6 +16,31 @@ pub fn put_registers(registers: &[Register], into: &mut [Line])
 {
     for key in 0..4 * into.len() {
         put_register(into, key, register_or_empty(registers, key));
+    }
+}
+
+/// Writes the registers that requests name to their places among lines that represent the registers before these requests.
+pub fn put_changed(registers: &[Register], asks: &[Ask], into: &mut [Line])
+    requires registers { AreRegisters registers.now }
+    requires count { length into.old ≡ (length registers.now + 3) / 4 }
+    ensures { BringsUpToDate registers.now asks.now into.old into.new }
+{
+    for place in 0..asks.len() {
+        let ask = asks[place];
+        put_named(registers, ask.op.a, into);
+    }
+}
+
+/// Writes a register to its place, where there is one of this key.
+fn put_named(registers: &[Register], key: u64, into: &mut [Line])
+    requires { length into.old ≡ (length registers.now + 3) / 4 }
+    ensures long { length into.new ≡ length into.old }
+    ensures here { key < length registers.now → register_in into.new key ≡ register_at registers.now key }
+    ensures others { (other : ℕ) → other ≢ key → register_in into.new other ≡ register_in into.old other }
+    ensures past { length registers.now ≤ key → into.new ≡ into.old }
+{
+    if key < registers.len() as u64 {
+        put_register(into, key as usize, registers[key as usize]);
     }
 }
 

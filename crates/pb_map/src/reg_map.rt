@@ -3,8 +3,8 @@ ghost use Rattle.pb_object.specs.declared.kind.Kind.TheVariants.{Map};
 ghost use Rattle.pb_object.specs.Map.{register_at};
 ghost use Rattle.pb_object.specs.Object.{Registers};
 
-use crate::lines::{put_registers, take_registers};
-use pb_object::{Kind, NotAState, Object, Op, Register, Reply, apply_to_map};
+use crate::lines::{put_changed, put_registers, take_registers};
+use pb_object::{Ask, Kind, NotAState, Object, Op, Register, Reply, apply_to_map};
 use pb_pmem::Line;
 use std::alloc::{AllocError, Global};
 use std::marker::Model;
@@ -68,6 +68,10 @@ impl Object for RegMap {
 
     fn put_lines(&self, into: &mut [Line]) {
         put_registers(&self.registers, into);
+    }
+
+    fn put_changes(&self, asks: &[Ask], into: &mut [Line]) {
+        put_changed(&self.registers, asks, into);
     }
 
     fn take_lines(&mut self, from: &[Line]) -> Result<(), NotAState> {

@@ -4,4 +4,6 @@ pub mod KeptLists
 mod KeptRequests
 mod LawLemmas
 pub mod ObjectLinesLemmas
+pub mod PlainWords
 pub mod RisingLemmas
+pub mod Sides

@@ -13,6 +13,11 @@ pub record LeavesUnusedZero (used : ℕ) (op : Op) : Type 0 where
   pub b : used < 2 → op.b ≡ 0
   pub c : used < 3 → op.c ≡ 0
 
+-- the numbers of a reply after the first so many are 0
+pub record LeavesReplyZero (used : ℕ) (reply : Reply) : Type 0 where
+  pub value : used < 1 → reply.value ≡ 0
+  pub extra : used < 2 → reply.extra ≡ 0
+
 -- an operation of this kind: its code is one of the kind's, and the arguments that it doesn't use are 0
 abbrev pub IsOperation : Kind → Op → Type 0
 IsOperation kind op = IsSomeAnd (action_of op.code) (λ action. (action_kind action ≡ kind) × LeavesUnusedZero (argument_count action) op)

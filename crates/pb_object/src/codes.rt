@@ -1,7 +1,7 @@
-//! The format's codes: the one table of operations and replies.
-ghost use Rattle.std.specs.Prelude.{◌≡◌, ◌↔◌, IsTrue, Contains};
-ghost use Rattle.pb_object.specs.Codes.{action_code, action_of, action_kind, action_side, argument_count, action_word, answer_code, answer_of, answer_word, answers_of, value_count};
-ghost use Rattle.pb_object.specs.Codes.{action_code, action_of, action_kind, action_side, argument_count, action_word, answer_code, answer_of, answer_word, answers_of, action_named, named_among};
+//! The format's codes: the one table of operations, and that of replies.
+ghost use Rattle.std.specs.Prelude.{◌≡◌, ◌↔◌, ◌==◌, ◌&&◌, IsTrue, Contains, find};
+ghost use Rattle.std.specs.Str.{bytes_eq};
+ghost use Rattle.pb_object.specs.Codes.{kind_code, action_code, action_of, action_kind, action_side, argument_count, action_word, answer_code, answer_of, answer_word, answers_of, value_count, action_named, named_among};
 
 use crate::kind::Kind;
 
@@ -59,24 +59,73 @@ pub enum Answer {
     At,
 }
 
+/// What the format says of an operation.
+#[derive(Clone, Copy)]
+struct Row {
+    word: &'static str,
+    code: u64,
+    kind: Kind,
+    side: u32,
+    arguments: usize,
+    answers: &'static [Answer],
+}
+
+/// The operations in the order of their codes.
+const ACTIONS: [Action; 11] = [
+    Action::Get,
+    Action::Put,
+    Action::Cas,
+    Action::Push,
+    Action::Pop,
+    Action::Top,
+    Action::Insert,
+    Action::RemoveMin,
+    Action::Min,
+    Action::QueuePut,
+    Action::QueueTake,
+];
+
 impl Action {
+    /// The table of operations: script word, code, kind, side, how many arguments are used, what a reply may say.
+    fn row(self) -> Row
+        ensures word { result.word.now ≡ action_word self }
+        ensures code { result.code ≡ action_code self }
+        ensures kind { result.kind ≡ action_kind self }
+        ensures side { result.side ≡ action_side self }
+        ensures arguments { result.arguments ≡ argument_count self }
+        ensures answers { result.answers.now ≡ answers_of self }
+    {
+        use Answer::{At, Depth, Empty, Full, Is, Item, NoKey, Size, Stale, Was, Worn};
+        use Kind::{Heap, Map, Queue, Stack};
+        let (word, code, kind, side, arguments, answers): (_, _, _, _, _, &'static [Answer]) =
+            match self {
+                Action::Get => ("get", 1, Map, 0, 1, &[Is, NoKey]),
+                Action::Put => ("put", 2, Map, 0, 2, &[Was, NoKey, Worn]),
+                Action::Cas => ("cas", 3, Map, 0, 3, &[Was, Stale, NoKey, Worn]),
+                Action::Push => ("push", 4, Stack, 0, 1, &[Depth, Full]),
+                Action::Pop => ("pop", 5, Stack, 0, 0, &[Item, Empty]),
+                Action::Top => ("top", 6, Stack, 0, 0, &[Item, Empty]),
+                Action::Insert => ("insert", 7, Heap, 0, 1, &[Size, Full]),
+                Action::RemoveMin => ("removemin", 8, Heap, 0, 0, &[Item, Empty]),
+                Action::Min => ("min", 9, Heap, 0, 0, &[Item, Empty]),
+                Action::QueuePut => ("put", 10, Queue, 0, 1, &[At, Full, Worn]),
+                Action::QueueTake => ("take", 11, Queue, 1, 0, &[Item, Empty]),
+            };
+        Row {
+            word,
+            code,
+            kind,
+            side,
+            arguments,
+            answers,
+        }
+    }
+
     /// The operation's code.
     pub fn code(self) -> u64
         ensures { result ≡ action_code self }
     {
-        match self {
-            Action::Get => 1,
-            Action::Put => 2,
-            Action::Cas => 3,
-            Action::Push => 4,
-            Action::Pop => 5,
-            Action::Top => 6,
-            Action::Insert => 7,
-            Action::RemoveMin => 8,
-            Action::Min => 9,
-            Action::QueuePut => 10,
-            Action::QueueTake => 11,
-        }
+        self.row().code
     }
 
     /// The action that a code stands for, if there is one.
@@ -84,93 +133,42 @@ impl Action {
     pub fn from_code(code: u64) -> Option<Action>
         ensures { result ≡ action_of code }
     {
-        match code {
-            1 => Some(Action::Get),
-            2 => Some(Action::Put),
-            3 => Some(Action::Cas),
-            4 => Some(Action::Push),
-            5 => Some(Action::Pop),
-            6 => Some(Action::Top),
-            7 => Some(Action::Insert),
-            8 => Some(Action::RemoveMin),
-            9 => Some(Action::Min),
-            10 => Some(Action::QueuePut),
-            11 => Some(Action::QueueTake),
-            _ => None,
-        }
+        action_with_code(&ACTIONS, code)
     }
 
     /// The kind of object that the action is for.
     pub fn kind(self) -> Kind
         ensures { result ≡ action_kind self }
     {
-        match self {
-            Action::Get | Action::Put | Action::Cas => Kind::Map,
-            Action::Push | Action::Pop | Action::Top => Kind::Stack,
-            Action::Insert | Action::RemoveMin | Action::Min => Kind::Heap,
-            Action::QueuePut | Action::QueueTake => Kind::Queue,
-        }
+        self.row().kind
     }
 
     /// The side of the object that the action belongs to: 1 for takes of a queue, else 0.
     pub fn side(self) -> u32
         ensures { result ≡ action_side self }
     {
-        match self {
-            Action::QueueTake => 1,
-            _ => 0,
-        }
+        self.row().side
     }
 
     /// How many arguments the action uses.
     pub fn argument_count(self) -> usize
         ensures { result ≡ argument_count self }
     {
-        match self {
-            Action::Cas => 3,
-            Action::Put => 2,
-            Action::Get | Action::Push | Action::Insert | Action::QueuePut => 1,
-            _ => 0,
-        }
+        self.row().arguments
     }
 
     /// The action's word in a script.
     pub fn word(self) -> &'static str
         ensures { result.now ≡ action_word self }
     {
-        match self {
-            Action::Get => "get",
-            Action::Put => "put",
-            Action::Cas => "cas",
-            Action::Push => "push",
-            Action::Pop => "pop",
-            Action::Top => "top",
-            Action::Insert => "insert",
-            Action::RemoveMin => "removemin",
-            Action::Min => "min",
-            Action::QueuePut => "put",
-            Action::QueueTake => "take",
-        }
+        self.row().word
     }
 
     /// Whether a reply to the action may say this.
     pub fn may_answer(self, answer: Answer) -> bool
         ensures { IsTrue result ↔ Contains (answers_of self) answer }
     {
-        match self {
-            Action::Get => matches!(answer, Answer::Is | Answer::NoKey),
-            Action::Put => matches!(answer, Answer::Was | Answer::NoKey | Answer::Worn),
-            Action::Cas => matches!(
-                answer,
-                Answer::Was | Answer::Stale | Answer::NoKey | Answer::Worn
-            ),
-            Action::Push => matches!(answer, Answer::Depth | Answer::Full),
-            Action::Insert => matches!(answer, Answer::Size | Answer::Full),
-            Action::QueuePut => matches!(answer, Answer::At | Answer::Full | Answer::Worn),
-            Action::Pop | Action::Top | Action::RemoveMin | Action::Min | Action::QueueTake => {
-                matches!(answer, Answer::Item | Answer::Empty)
-            }
-        }
+        self.row().answers.contains(&answer)
     }
 
     /// How many of its two numbers a reply to the action uses that says this.
@@ -197,33 +195,51 @@ impl Action {
     pub fn from_word(kind: Kind, word: &[u8]) -> Option<Action>
         ensures { result ≡ action_named kind word.now }
     {
-        match kind {
-            Kind::Map => named_among(&[Action::Get, Action::Put, Action::Cas], word),
-            Kind::Stack => named_among(&[Action::Push, Action::Pop, Action::Top], word),
-            Kind::Heap => named_among(&[Action::Insert, Action::RemoveMin, Action::Min], word),
-            Kind::Queue => named_among(&[Action::QueuePut, Action::QueueTake], word),
-        }
+        named_among(&ACTIONS, kind, word)
     }
 }
 
+/// The replies in the order of their codes.
+const ANSWERS: [Answer; 11] = [
+    Answer::Is,
+    Answer::Was,
+    Answer::Stale,
+    Answer::NoKey,
+    Answer::Worn,
+    Answer::Depth,
+    Answer::Full,
+    Answer::Item,
+    Answer::Empty,
+    Answer::Size,
+    Answer::At,
+];
+
 impl Answer {
+    /// The table of replies: word in an outcome line, and code.
+    fn row(self) -> (&'static str, u64)
+        ensures word { result.0.now ≡ answer_word self }
+        ensures code { result.1 ≡ answer_code self }
+    {
+        match self {
+            Answer::Is => ("is", 1),
+            Answer::Was => ("was", 2),
+            Answer::Stale => ("stale", 3),
+            Answer::NoKey => ("nokey", 4),
+            Answer::Worn => ("worn", 5),
+            Answer::Depth => ("depth", 6),
+            Answer::Full => ("full", 7),
+            Answer::Item => ("item", 8),
+            Answer::Empty => ("empty", 9),
+            Answer::Size => ("size", 10),
+            Answer::At => ("at", 11),
+        }
+    }
+
     /// The reply's code.
     pub fn code(self) -> u64
         ensures { result ≡ answer_code self }
     {
-        match self {
-            Answer::Is => 1,
-            Answer::Was => 2,
-            Answer::Stale => 3,
-            Answer::NoKey => 4,
-            Answer::Worn => 5,
-            Answer::Depth => 6,
-            Answer::Full => 7,
-            Answer::Item => 8,
-            Answer::Empty => 9,
-            Answer::Size => 10,
-            Answer::At => 11,
-        }
+        self.row().1
     }
 
     /// The answer that a code stands for, if there is one.
@@ -231,47 +247,32 @@ impl Answer {
     pub fn from_code(code: u64) -> Option<Answer>
         ensures { result ≡ answer_of code }
     {
-        match code {
-            1 => Some(Answer::Is),
-            2 => Some(Answer::Was),
-            3 => Some(Answer::Stale),
-            4 => Some(Answer::NoKey),
-            5 => Some(Answer::Worn),
-            6 => Some(Answer::Depth),
-            7 => Some(Answer::Full),
-            8 => Some(Answer::Item),
-            9 => Some(Answer::Empty),
-            10 => Some(Answer::Size),
-            11 => Some(Answer::At),
-            _ => None,
-        }
+        answer_with_code(&ANSWERS, code)
     }
 
     /// The answer's word in an outcome line.
     pub fn word(self) -> &'static str
         ensures { result.now ≡ answer_word self }
     {
-        match self {
-            Answer::Is => "is",
-            Answer::Was => "was",
-            Answer::Stale => "stale",
-            Answer::NoKey => "nokey",
-            Answer::Worn => "worn",
-            Answer::Depth => "depth",
-            Answer::Full => "full",
-            Answer::Item => "item",
-            Answer::Empty => "empty",
-            Answer::Size => "size",
-            Answer::At => "at",
-        }
+        self.row().0
     }
 }
 
-fn named_among(actions: &[Action], word: &[u8]) -> Option<Action>
-    ensures { result ≡ named_among actions.now word.now }
+fn action_with_code(actions: &[Action], code: u64) -> Option<Action>
+    ensures { result ≡ find (λ action. code == action_code action) actions.now }
 {
-    actions
-        .iter()
-        .copied()
-        .find(|action| action.word().as_bytes() == word)
+    actions.iter().copied().find(|action| code == action.code())
+}
+
+fn answer_with_code(answers: &[Answer], code: u64) -> Option<Answer>
+    ensures { result ≡ find (λ answer. code == answer_code answer) answers.now }
+{
+    answers.iter().copied().find(|answer| code == answer.code())
+}
+
+fn named_among(actions: &[Action], kind: Kind, word: &[u8]) -> Option<Action>
+    ensures { result ≡ find
+        (λ action. (kind_code (action_kind action) == kind_code kind) && bytes_eq (action_word action) word.now) actions.now }
+{
+    actions.iter().copied().find(|action| action.kind() == kind && action.word().as_bytes() == word)
 }

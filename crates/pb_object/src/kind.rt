@@ -14,6 +14,8 @@ pub enum Kind {
     Queue,
 }
 
+const KINDS: [Kind; 4] = [Kind::Map, Kind::Stack, Kind::Heap, Kind::Queue];
+
 impl Kind {
     /// The number that stands for the kind in a header.
     pub fn code(self) -> u64
@@ -31,13 +33,7 @@ impl Kind {
     pub fn from_code(code: u64) -> Option<Kind>
         ensures { result ≡ kind_of_code code }
     {
-        match code {
-            1 => Some(Kind::Map),
-            2 => Some(Kind::Stack),
-            3 => Some(Kind::Heap),
-            4 => Some(Kind::Queue),
-            _ => None,
-        }
+        KINDS.iter().copied().find(|kind| code == kind.code())
     }
 
     /// The word for the kind on a command line and in a report.
@@ -57,7 +53,7 @@ impl Kind {
     pub fn from_word(word: &[u8]) -> Option<Kind>
         ensures { result ≡ kind_named word.now }
     {
-        [Kind::Map, Kind::Stack, Kind::Heap, Kind::Queue]
+        KINDS
             .iter()
             .copied()
             .find(|kind| kind.word().as_bytes() == word)

@@ -1,12 +1,13 @@
 ghost use Rattle.std.specs.Prelude.{◌≡◌, ◌≢◌, ◌≤◌, ◌↔◌, length, IsTrue, IfOk, IfErr, IsOk, OnOk, OnErr};
 ghost use Rattle.pb_object.specs.declared.kind.Kind.{Kind};
 ghost use Rattle.pb_object.specs.declared.kind.Kind.TheVariants.{Queue};
+ghost use Rattle.pb_object.specs.Changes.{after_asks};
 ghost use Rattle.pb_object.specs.Object.{State, start_state, next_state, reply_of};
 ghost use Rattle.pb_object.specs.ObjectLines.{kind_of, size_of, object_line_count, LinesRepresent, IsFirstRefused};
 ghost use Rattle.pb_object.specs.Request.{IsOperation};
 
 use crate::kind::Kind;
-use crate::request::{Op, Reply, is_operation};
+use crate::request::{Ask, Op, Reply, is_operation};
 use pb_pmem::Line;
 use std::alloc::{AllocError, Global};
 
@@ -67,6 +68,16 @@ pub trait Object: Sized + Drop {
     fn put_lines(&self, into: &mut [Line])
         requires { length into.old ≡ object_line_count KIND (size_of (state self.now)) }
         ensures { LinesRepresent into.new (state self.now) };
+
+    /// Brings lines up to date that represent the state before these requests were applied.
+    ///
+    /// It may write all lines. An object whose requests touch few of them writes those alone.
+    fn put_changes(&self, asks: &[Ask], into: &mut [Line])
+        requires { length into.old ≡ object_line_count KIND (size_of (state self.now)) }
+        ensures { (before : State) → LinesRepresent into.old before → state self.now ≡ after_asks before asks.now → LinesRepresent into.new (state self.now) }
+    {
+        self.put_lines(into);
+    }
 
     /// Takes the state that the lines represent, or names the first line that the format refuses. After an error the state is as before.
     fn take_lines(&mut self, from: &[Line]) -> Result<(), NotAState>

@@ -1,8 +1,9 @@
 -- Writes of the lines that differ, one after the other, as a loop makes them.
-use Rattle.std.proofs.Common.{◌≡◌, ℕ, ◌+◌, ◌<◌, zero, suc, Bool, true, false, not, List, [], ◌∷◌, ◌++◌, length, take, drop, get_or, refl, sym, ap, subst, ◌∙◌, add-one, arith}
+use Rattle.std.proofs.Common.{◌≡◌, ℕ, ◌+◌, ◌<◌, zero, suc, Bool, true, false, not, List, [], ◌∷◌, ◌++◌, ◌≤◌, length, take, drop, set, get_or, refl, sym, ap, subst, ◌∙◌, add-one, arith}
 use Rattle.std.specs.Prelude.{if◌then◌else◌}
 use Rattle.std.proofs.Math.Seq.{take-suc, split_at}
-use Rattle.std.proofs.lemmas.List.{append-nil, length-take-le, get_or-drop}
+use Rattle.std.proofs.lemmas.List.{append-nil, length-take-le, length-set, get_or-drop, drop-set-lt, take_all, take_more, take_more_set}
+use Rattle.std.proofs.lemmas.Grind.{drop_more_same}
 use Rattle.pb_pmem.specs.declared.line.Line.{Line}
 use Rattle.pb_pmem.specs.declared.log.LogOp.{LogOp}
 use Rattle.pb_pmem.specs.declared.log.LogOp.TheVariants.{Whole}
@@ -71,6 +72,49 @@ stops_change first before lines place old line x y z at other done now =
     let rest = changes_from (suc (first + place)) (drop (suc place) before) (drop (suc place) lines) in
     subst (λ (l : List LogOp). Stops (IsFailedPrefix l) x z) (sym (changes_all first before lines place old line at ∙ ap (λ (l : List LogOp). changes_from first before (take place lines) ++ (l ++ rest)) (one_change (first + place) old line other)))
     (stops_late (changes_from first before (take place lines)) ((Whole (first + place) line ∷ []) ++ rest) x y z done (stops_early (Whole (first + place) line ∷ []) rest y z now))
+
+-- The lines in memory, of which those before a place are written
+
+pub record IsWrittenTo (old lines spare : List Line) (place : ℕ) : Type 0 where
+  pub long : length spare ≡ length lines
+  pub done : take place spare ≡ take place lines
+  pub rest : drop place spare ≡ drop place old
+
+-- what stands at the place is as it was
+pub still_there : (old lines spare : List Line) (place : ℕ) (line : Line) → IsWrittenTo old lines spare place → place < length lines → line ≡ get_or spare place line → line ≡ get_or old place line
+still_there old lines spare place line written within is =
+    is ∙ (at spare ∙ (ap (λ (l : List Line). get_or l 0 line) written.rest ∙ sym (at old)))
+  where
+    at : (ls : List Line) → get_or ls place line ≡ get_or (drop place ls) 0 line
+    at ls =
+        let here : place ≡ place + 0 = omega arith in
+        (λ i. get_or ls (here i) line) ∙ sym (get_or-drop place ls 0 line)
+
+-- one more is written
+pub written_more : (old lines spare : List Line) (place : ℕ) (line : Line) → IsWrittenTo old lines spare place → place < length lines → line ≡ get_or lines place line → IsWrittenTo old lines (set spare place line) (place + 1)
+written_more old lines spare place line written within is = record {
+  long = length-set spare place line ∙ written.long;
+  done = take_more_set spare place line (omega (arith, within, written.long)) ∙ (ap (λ (l : List Line). l ++ line ∷ []) written.done ∙ (ap (λ (one : Line). take place lines ++ one ∷ []) is ∙ sym (take_more lines place line within)));
+  rest = drop-set-lt (place + 1) spare place line (omega arith) ∙ drop_more_same spare old place written.rest;
+}
+
+-- or is there already
+pub same_more : (old lines spare : List Line) (place : ℕ) (there line : Line) → IsWrittenTo old lines spare place → place < length lines → there ≡ get_or spare place there → line ≡ get_or lines place line → there ≡ line → IsWrittenTo old lines spare (place + 1)
+same_more old lines spare place there line written within is_there is same = record {
+  long = written.long;
+  done = take_more spare place there (omega (arith, within, written.long)) ∙ ((λ i. written.done i ++ here i ∷ []) ∙ sym (take_more lines place line within));
+  rest = drop_more_same spare old place written.rest;
+}
+  where
+    here : get_or spare place there ≡ get_or lines place line
+    here = sym is_there ∙ (same ∙ is)
+
+pub none_written : (old lines : List Line) → length old ≡ length lines → IsWrittenTo old lines old 0
+none_written old lines long = record { long = long; done = refl; rest = refl }
+
+pub all_written : (old lines spare : List Line) (place : ℕ) → IsWrittenTo old lines spare place → length lines ≤ place → spare ≡ lines
+all_written old lines spare place written all =
+    sym (take_all place spare (omega (arith, written.long, all))) ∙ (written.done ∙ take_all place lines all)
 
 -- what a comparison tells
 pub differs : (result same : Bool) → result ≡ not same → result ≡ true → same ≡ false

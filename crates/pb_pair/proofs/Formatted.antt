@@ -21,7 +21,7 @@ use Rattle.pb_layout.specs.Shape.{IsHeader}
 use Rattle.pb_layout.specs.Header.{record_length, old_record_length, old_first_record_line}
 use Rattle.pb_layout.specs.Record.{IsRecord}
 use Rattle.pb_layout.specs.Region.{record_place}
-use Rattle.pb_layout.specs.RegionOps.{header_words, publish_ops, format_ops}
+use Rattle.pb_layout.specs.RegionOps.{header_words, publish_ops, format_ops, front_ops, write_backs}
 use Rattle.pb_layout.specs.Represents.{record_at, record_in_use}
 use Rattle.pb_layout.specs.ToldExits.{contents_of}
 use Rattle.pb_layout.proofs.OneRecovery.{record_fits}
@@ -32,7 +32,7 @@ use Rattle.pb_layout_laws.proofs.Geometry.{record_after}
 use Rattle.pb_layout_laws.proofs.WritingRegion.{one_or_two}
 use Rattle.pb_pair.specs.declared.known.Known.TheVariants.{Sure}
 use Rattle.pb_pair.specs.declared.side.Sides.{Sides}
-use Rattle.pb_pair.specs.Format.{AreFirst, IsFormatted, MakesRegion, fresh_side, front_ops, write_backs}
+use Rattle.pb_pair.specs.Format.{AreFirst, IsFormatted, MakesRegion, fresh_side}
 use Rattle.pb_pair.specs.View.{PairView, at_side, round_of, lines_of, pair_view, IsSide, HoldsSide, HoldsRecords, IsPair}
 use Rattle.pb_pair.proofs.Pairs.{now_before}
 use Rattle.pb_pair.proofs.Told.{whole_contents, told_before}

@@ -1,5 +1,5 @@
 -- The operations of formatting.
-use Rattle.std.proofs.Common.{◌≡◌, ◌≢◌, ℕ, List, [], Option, Some, None, IfSome, inr, refl, sym, ap, subst, ◌∙◌}
+use Rattle.std.proofs.Common.{◌≡◌, ◌≢◌, ℕ, List, [], Option, Some, None, IfSome, inr, sym, ap, subst, ◌∙◌}
 use Rattle.pb_pmem.specs.declared.line.Line.{Line}
 use Rattle.pb_pmem.specs.declared.log.LogOp.{LogOp}
 use Rattle.pb_pmem.specs.Device.{Device, Reads}
@@ -7,9 +7,6 @@ use Rattle.pb_pmem.specs.Lines.{line_at}
 use Rattle.pb_pmem.specs.Operations.{writes_from, Does, Stops, IsFailedPrefixOfTwo}
 use Rattle.pb_pmem.proofs.OperationSteps.{does_none, stops_weaker}
 use Rattle.pb_pmem.proofs.WrittenLines.{writes_from-none}
-use Rattle.pb_object.specs.declared.kind.Kind.{Kind}
-use Rattle.pb_object.specs.declared.kind.Kind.TheVariants.{Map, Stack, Heap, Queue}
-use Rattle.pb_object.specs.Standing.{side_count}
 use Rattle.pb_layout.specs.declared.header.Header.{Header}
 use Rattle.pb_layout.specs.declared.header.TheConstants.{MAGIC}
 use Rattle.pb_layout.specs.Damage.{HasRegion}
@@ -17,13 +14,6 @@ use Rattle.pb_layout.specs.Header.{word}
 use Rattle.pb_layout.specs.RegionOps.{prepare_ops, publish_ops}
 use Rattle.pb_pair.specs.declared.why.Stop.TheVariants.{Fault}
 use Rattle.pb_pair.specs.Format.{IsFailedFormat, IsFormatStop}
-
--- a kind that isn't a queue has one side
-pub one_side : (kind : Kind) → kind ≢ Queue → side_count kind ≡ 1
-one_side Map other = refl
-one_side Stack other = refl
-one_side Heap other = refl
-one_side Queue other = absurd (other refl)
 
 -- and writes no second record
 pub no_writes : (first : ℕ) (lines : List Line) (device : Device) → lines ≡ [] → Does (writes_from first lines) device device

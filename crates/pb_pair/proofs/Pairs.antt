@@ -13,9 +13,9 @@ use Rattle.pb_pmem.specs.Lines.{line_at}
 use Rattle.pb_pmem.specs.Operations.{IsFailedPrefix, after, Does, Stops, StopsBy}
 use Rattle.pb_pmem.proofs.Lines.{contents-none, contents-first, contents-append, length-contents}
 use Rattle.pb_pmem.proofs.OperationSteps.{does_none}
-use Rattle.pb_object.specs.declared.kind.Kind.{Kind}
-use Rattle.pb_object.specs.declared.kind.Kind.TheVariants.{Map, Stack, Heap, Queue}
+use Rattle.pb_object.specs.declared.kind.Kind.TheVariants.{Queue}
 use Rattle.pb_object.specs.Standing.{side_count}
+pub use Rattle.pb_object.proofs.Sides.{sides_few}
 use Rattle.pb_layout.specs.declared.header.Header.{Header}
 use Rattle.pb_layout.specs.Shape.{IsHeader}
 use Rattle.pb_layout.specs.Header.{record_length}
@@ -234,12 +234,6 @@ put_none old position sound free = sound.decided (λ failed. sure_not_failed (sy
 
 -- Storing
 
-pub sides_few : (kind : Kind) (side : ℕ) → side < side_count kind → side < 2
-sides_few Map side here = omega arith
-sides_few Stack side here = omega arith
-sides_few Heap side here = omega arith
-sides_few Queue side here = here
-
 -- it leaves another record as it is
 staged-spares : (head : Header) (side : ℕ) (part : SideView) (lines : List Line) (other which : ℕ) → length lines ≡ record_length head → 2 * other + which ≢ 2 * side + (part.round + 1) % 2 → All (Spares (record_place head other which) (record_length head)) (staged_ops head side part lines)
 staged-spares head side part lines other which long apart =
@@ -249,7 +243,7 @@ staged-spares head side part lines other which long apart =
     (over-spare (record_place head other which) (record_length head) first part.spare lines (blocks_apart_of head side ((part.round + 1) % 2) other which (length lines) long apart))
     (All-cons Out (Back first (length lines)) (Fence ∷ []) tt (All-cons Out Fence [] tt (All-nil Out)))
 
-stored-spares : (head : Header) (side : ℕ) (part : SideView) (lines : List Line) (other which : ℕ) → side < 2 → length lines ≡ record_length head → 2 * other + which ≢ 2 * side + (part.round + 1) % 2 → All (Spares (record_place head other which) (record_length head)) (stored_ops head side part lines)
+pub stored-spares : (head : Header) (side : ℕ) (part : SideView) (lines : List Line) (other which : ℕ) → side < 2 → length lines ≡ record_length head → 2 * other + which ≢ 2 * side + (part.round + 1) % 2 → All (Spares (record_place head other which) (record_length head)) (stored_ops head side part lines)
 stored-spares head side part lines other which few long apart =
     All-append (Spares (record_place head other which) (record_length head)) (staged_ops head side part lines) (commit_ops side (part.round + 1))
     (staged-spares head side part lines other which long apart)
@@ -340,7 +334,7 @@ stored_as old device side lines = record {
 -- The records, where the device tells its log
 
 -- no side's record in use is the spare one of this side
-in_use_is_other : (pair : PairView) (side other : ℕ) → 2 * other + round_of pair other % 2 ≢ 2 * side + (round_of pair side + 1) % 2
+pub in_use_is_other : (pair : PairView) (side other : ℕ) → 2 * other + round_of pair other % 2 ≢ 2 * side + (round_of pair side + 1) % 2
 in_use_is_other pair side other e =
     let same : other ≡ side = omega (arith, e, parity-lt (round_of pair other), parity-lt (round_of pair side + 1)) in
     parity-one (round_of pair side) (omega (arith, e, same, ap (round_of pair) same))

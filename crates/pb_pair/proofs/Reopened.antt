@@ -9,6 +9,7 @@ use Rattle.pb_pmem.specs.Device.{Device, Tale}
 use Rattle.pb_pmem.specs.Operations.{IsFailedPrefix, Does, Stops}
 use Rattle.pb_object.specs.History.{Round, IsLegalRound, after_round}
 use Rattle.pb_object.specs.Standing.{Standing, side_count, rounds_of}
+use Rattle.pb_object.proofs.Sides.{few_sides, sides_few}
 use Rattle.pb_layout.specs.Damage.{HasRegion, opening_checks, state_checks, region_checks}
 use Rattle.pb_layout.specs.Header.{word}
 use Rattle.pb_layout.specs.Recovered.{Represents}
@@ -16,7 +17,6 @@ use Rattle.pb_layout.specs.Represents.{header_for, record_in_use, record_of_side
 use Rattle.pb_layout.specs.ToldExits.{IsReadyWith, StaysFound, contents_of}
 use Rattle.pb_layout.proofs.Checks.{all_sound, named_before, region_sharp}
 use Rattle.pb_layout.proofs.OneRecovery.{region_from, parts}
-use Rattle.pb_layout.proofs.OneStanding.{few_sides}
 use Rattle.pb_layout_laws.proofs.ReadyWithOne.{only_member}
 use Rattle.pb_layout_laws.proofs.WritingRegion.{one_or_two}
 use Rattle.pb_layout_laws.proofs.Rounds.{next_rounds, next_rounds_other, next_round_list, next_header}
@@ -29,7 +29,6 @@ use Rattle.pb_pair.specs.Settle.{IsSettled, settled_ops, was_called}
 use Rattle.pb_pair.specs.Store.{IsNext, IsStored, HasFailedStore}
 use Rattle.pb_pair.specs.View.{DoubtView, SideView, PairView, round_of, lines_of, IsPair, HasFailed}
 use Rattle.pb_pair.proofs.Opened.{header_is}
-use Rattle.pb_pair.proofs.Pairs.{sides_few}
 use Rattle.pb_pair.proofs.Safe.{settles_found, round_after, not_called}
 use Rattle.pb_pair.proofs.Told.{told_after}
 

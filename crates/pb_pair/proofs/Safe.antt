@@ -21,6 +21,7 @@ use Rattle.pb_object.specs.History.{Round, IsLegalRound, after_round}
 use Rattle.pb_object.specs.Object.{State, Registers, Items, Rising, Waits}
 use Rattle.pb_object.specs.ObjectLines.{kind_of, size_of, LinesRepresent}
 use Rattle.pb_object.specs.Standing.{Standing, side_count, rounds_of}
+use Rattle.pb_object.proofs.Sides.{sides_few}
 use Rattle.pb_layout.specs.declared.header.Header.{Header}
 use Rattle.pb_layout.specs.Doubt.{IsRoundInDoubt, HasRoundLanded}
 use Rattle.pb_layout.specs.Exits.{empty_for}
@@ -60,7 +61,6 @@ use Rattle.pb_pair.specs.Store.{staged_ops, stored_ops, IsNext, IsStored, IsFail
 use Rattle.pb_pair.specs.View.{SideView, DoubtView, PairView, side_of, round_of, lines_of, HoldsSide, IsPair}
 use Rattle.pb_pair.specs.declared.why.Stop.{Stop}
 use Rattle.pb_pair.specs.declared.why.Stop.TheVariants.{NoMemory, Fault, WasTaken, WasEmpty, BadLine}
-use Rattle.pb_pair.proofs.Pairs.{sides_few}
 use Rattle.pb_pair.proofs.Told.{told_now, whole_contents, told_length, told_after}
 
 -- Putting a cell

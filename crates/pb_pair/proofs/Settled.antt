@@ -1,6 +1,7 @@
 -- What settling makes of a pair.
 use Rattle.std.proofs.Common.{◌≡◌, ◌≢◌, ℕ, zero, suc, ◌+◌, ◌<◌, Bool, true, false, List, length, Option, Some, None, option_map, refl, sym, ap, subst, ◌∙◌, arith}
 use Rattle.std.specs.Prelude.{◌==◌, ◌&&◌}
+use Rattle.std.proofs.lemmas.Bool.{and_parts}
 use Rattle.std.proofs.lemmas.Bool.Decides.{nat_tests}
 use Rattle.pb_pmem.specs.declared.line.Line.{Line}
 use Rattle.pb_pmem.specs.Device.{Device}
@@ -13,7 +14,7 @@ use Rattle.pb_layout.specs.Record.{IsRecord}
 use Rattle.pb_layout.specs.RegionOps.{settle_ops}
 use Rattle.pb_layout.specs.Represents.{record_in_use}
 use Rattle.pb_layout.specs.ToldExits.{contents_of}
-use Rattle.pb_layout.proofs.OneStanding.{few_sides}
+use Rattle.pb_object.proofs.Sides.{few_sides}
 use Rattle.pb_pair.specs.declared.known.Doubt.{Doubt}
 use Rattle.pb_pair.specs.declared.known.Known.{Known}
 use Rattle.pb_pair.specs.declared.known.Known.TheVariants.{Sure}
@@ -23,17 +24,13 @@ use Rattle.pb_pair.specs.Settle.{was_called, called_in, called_on, settled_by, s
 use Rattle.pb_pair.specs.View.{SideView, DoubtView, PairView, at_side, side_of, round_of, lines_of, forgotten, side_view, doubt_view, pair_view, IsSide, HoldsSide, IsDoubt, HoldsRecords, IsPair}
 use Rattle.pb_pair.proofs.HeldRecords.{SparesRecords, settle_spares, kept_where_told}
 
-both_true : (a b : Bool) → (a && b) ≡ true → (a ≡ true) × (b ≡ true)
-both_true true b e = (refl, e)
-both_true false b e = absurd (cc)
-
 same_number : (a b : ℕ) → (a == b) ≡ true → a ≡ b
 same_number a b e = grind (arith, nat_tests)
 
 -- the index word of a side was called: its record is in doubt
 pub called_doubt : (doubt : Option Doubt) (side : ℕ) → called_on doubt side ≡ true → (d : Doubt) × (doubt ≡ Some d) × (d.side ≡ side)
 called_doubt None side e = absurd (cc)
-called_doubt (Some d) side e = (d, refl, same_number d.side side (both_true d.called (d.side == side) e).1)
+called_doubt (Some d) side e = (d, refl, same_number d.side side (and_parts d.called (d.side == side) e).1)
 
 doubt_is : (device : Device) (head : Header) (sides : Sides) (known : Known) (doubt : Option Doubt) (d : Doubt) → IsPair (pair_view device head sides known doubt) → doubt ≡ Some d → IsDoubt head (side_view sides.first) (side_view sides.second) (doubt_view sides d)
 doubt_is device head sides known doubt d sound is = sound.in_doubt (doubt_view sides d) (ap (option_map (doubt_view sides)) is)
@@ -106,7 +103,7 @@ settled-forgotten (Some d) side part unknown = by (d.called && (d.side == side))
 -- a side is settled to a record
 settled-side : (head : Header) (first second : SideView) (doubt : Option DoubtView) (side : ℕ) → ((d : DoubtView) → doubt ≡ Some d → IsDoubt head first second d) → IsSide head side (at_side first second side) → IsSide head side (settled_side doubt side (at_side first second side))
 settled-side head first second None side in_doubt is = is
-settled-side head first second (Some d) side in_doubt is = by (d.called && (d.side == side)) (λ e. same_number d.side side (both_true d.called (d.side == side) e).1)
+settled-side head first second (Some d) side in_doubt is = by (d.called && (d.side == side)) (λ e. same_number d.side side (and_parts d.called (d.side == side) e).1)
   where
     by : (called : Bool) → (called ≡ true → d.side ≡ side) → IsSide head side (settled_by called d.lines (at_side first second side))
     by true tells =
@@ -129,7 +126,7 @@ settled-none head first second (Some d) one in_doubt =
 -- the records that a settled pair has in use, where the device tells its log
 settled-held : (head : Header) (image : List Line) (doubt : Option DoubtView) (side : ℕ) (part : SideView) → record_in_use image head side part.round ≡ part.lines → ((d : DoubtView) → doubt ≡ Some d → d.called ≡ true → d.side ≡ side → record_in_use image head side (part.round + 1) ≡ d.lines) → record_in_use image head side (settled_side doubt side part).round ≡ (settled_side doubt side part).lines
 settled-held head image None side part in_use in_doubt = in_use
-settled-held head image (Some d) side part in_use in_doubt = by (d.called && (d.side == side)) (both_true d.called (d.side == side))
+settled-held head image (Some d) side part in_use in_doubt = by (d.called && (d.side == side)) (and_parts d.called (d.side == side))
   where
     by : (called : Bool) → (called ≡ true → (d.called ≡ true) × ((d.side == side) ≡ true)) → record_in_use image head side (settled_by called d.lines part).round ≡ (settled_by called d.lines part).lines
     by true tells = in_doubt d refl (tells refl).0 (same_number d.side side (tells refl).1)

@@ -1,5 +1,5 @@
 -- A device that tells its log.
-use Rattle.std.proofs.Common.{◌≡◌, List, length, Option, Some, None, IfSome, option_map, refl, sym, ap, subst, ◌∙◌, [], ◌∷◌}
+use Rattle.std.proofs.Common.{◌≡◌, List, length, Option, Some, None, IfSome, option_map, refl, sym, ap, subst, ◌∙◌}
 use Rattle.pb_pmem.specs.declared.line.Line.{Line}
 use Rattle.pb_pmem.specs.declared.line.TheConstants.{LINES}
 use Rattle.pb_pmem.specs.declared.log.LogOp.{LogOp}

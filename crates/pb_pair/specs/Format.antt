@@ -1,10 +1,8 @@
 -- Formatting a device.
-use Rattle.std.specs.Prelude.{◌≡◌, ◌⊎◌, ◌<◌, ◌==◌, true, Bool, List, [], ◌∷◌, ◌++◌, None, IfSome, length, if◌then◌else◌}
+use Rattle.std.specs.Prelude.{◌≡◌, ◌⊎◌, ◌<◌, ◌==◌, true, Bool, List, [], None, IfSome, length}
 use Rattle.pb_pmem.specs.declared.line.Line.{Line}
 use Rattle.pb_pmem.specs.declared.log.LogOp.{LogOp}
-use Rattle.pb_pmem.specs.declared.log.LogOp.TheVariants.{Whole, Back, Fence}
 use Rattle.pb_pmem.specs.Device.{Device}
-use Rattle.pb_pmem.specs.Lines.{zero_line}
 use Rattle.pb_pmem.specs.Operations.{Does, Stops, StopsBy, IsFailedPrefixOfTwo}
 use Rattle.pb_object.specs.Standing.{side_count}
 use Rattle.pb_layout.specs.declared.header.Header.{Header}
@@ -12,8 +10,7 @@ use Rattle.pb_layout.specs.Damage.{HasRegion}
 use Rattle.pb_layout.specs.Shape.{IsHeader}
 use Rattle.pb_layout.specs.Header.{record_length}
 use Rattle.pb_layout.specs.Record.{IsRecord}
-use Rattle.pb_layout.specs.Region.{record_place}
-use Rattle.pb_layout.specs.RegionOps.{header_words, prepare_ops, publish_ops, format_ops}
+use Rattle.pb_layout.specs.RegionOps.{prepare_ops, publish_ops, format_ops}
 use Rattle.pb_pair.specs.declared.known.Known.TheVariants.{Sure}
 use Rattle.pb_pair.specs.declared.why.Stop.{Stop}
 use Rattle.pb_pair.specs.declared.why.Stop.TheVariants.{NoMemory, Fault, WasTaken, WasEmpty, BadLine}
@@ -45,14 +42,6 @@ pub record IsFormatted (header : Header) (first second : List Line) (old : Devic
   pub second_side : pair.second ≡ fresh_side (side_count header.kind == 2) second
   pub known : pair.known ≡ Sure
   pub doubt : pair.doubt ≡ None
-
--- the parts of the preparation of a region: the front after the first records, and what is given to the device
-abbrev pub front_ops : Header → List LogOp
-front_ops head = Whole 1 zero_line ∷ Whole 2 zero_line ∷ header_words head
-
-abbrev pub write_backs : Header → List LogOp
-write_backs head =
-    Back 0 3 ∷ Back (record_place head 0 0) (record_length head) ∷ ((if side_count head.kind == 2 then Back (record_place head 1 0) (record_length head) ∷ [] else []) ++ Fence ∷ [])
 
 -- where formatting may be cut off: at the first read, before the magic, or from the magic on
 abbrev pub IsFailedFormat : Header → List Line → List Line → List LogOp → Type 0

@@ -1,14 +1,13 @@
 -- What a crash leaves after a call of a pair, where the device tells its log.
-use Rattle.std.specs.Prelude.{◌≡◌, ◌⊎◌, ℕ, ◌≤◌, ◌<◌, true, false, List, [], ◌∷◌, Option, Some, None, IfSome, length}
+use Rattle.std.specs.Prelude.{◌≡◌, ◌⊎◌, ℕ, ◌<◌, true, false, List, [], ◌∷◌, Option, Some, None}
 use Rattle.pb_pmem.specs.declared.line.Line.{Line}
 use Rattle.pb_pmem.specs.Device.{Device, Tale}
 use Rattle.pb_object.specs.History.{Round, after_round}
 use Rattle.pb_object.specs.ObjectLines.{LinesRepresent}
 use Rattle.pb_object.specs.Standing.{Standing, rounds_of}
 use Rattle.pb_layout.specs.declared.header.Header.{Header}
-use Rattle.pb_layout.specs.Doubt.{either_state, IsRoundInDoubt, HasRoundLanded}
+use Rattle.pb_layout.specs.Doubt.{IsRoundInDoubt, HasRoundLanded}
 use Rattle.pb_layout.specs.Exits.{AreEmptyRecords, empty_for, sealed_round}
-use Rattle.pb_layout.specs.LogHistory.{AreSealed, history_of}
 use Rattle.pb_layout.specs.NextRecord.{IsNextRecord, HasCells}
 use Rattle.pb_layout.specs.Recovered.{Represents}
 use Rattle.pb_layout.specs.Represents.{header_for, object_parts}

@@ -7,8 +7,8 @@ ghost use Rattle.pb_object.specs.Standing.{side_count};
 ghost use Rattle.pb_layout.specs.Shape.{IsHeader};
 ghost use Rattle.pb_layout.specs.Header.{record_length};
 ghost use Rattle.pb_layout.specs.Region.{record_place};
-ghost use Rattle.pb_layout.specs.RegionOps.{header_words, prepare_ops, publish_ops, format_ops};
-ghost use Rattle.pb_pair.specs.Format.{AreFirst, MakesRegion, IsFormatStop, front_ops, write_backs};
+ghost use Rattle.pb_layout.specs.RegionOps.{header_words, prepare_ops, publish_ops, format_ops, front_ops, write_backs};
+ghost use Rattle.pb_pair.specs.Format.{AreFirst, MakesRegion, IsFormatStop};
 
 use crate::side::{Side, Sides};
 use crate::why::Stop;

@@ -104,13 +104,13 @@ impl Side {
         ensures ok { OnOk result
             (StoresSide head.now side lines.now (side_view self.old) (side_view self.new) (P.seen device.old) (P.seen device.new)) }
         ensures err { IfErr result
-            (λ called. StopsSide head.now side lines.now self.new.spare.items called (side_view self.old) (side_view self.new) (P.seen device.old) (P.seen device.new)) }
+            (λ called. StopsSide head.now side lines.now self.new.spare.items called
+            (side_view self.old) (side_view self.new) (P.seen device.old) (P.seen device.new)) }
     {
         let next = lines[0].words[0];
         let first = record_line(head, side, (next % 2) as u32);
-        let staged = stage(device, first, self.spare_known, &self.spare, lines);
-        self.spare.copy_from_slice(lines);
-        if staged.is_err() {
+        if stage(device, first, self.spare_known, &mut self.spare, lines).is_err() {
+            self.spare.copy_from_slice(lines);
             return Err(false);
         }
         if commit(device, side, next).is_err() {

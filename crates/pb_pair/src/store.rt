@@ -7,22 +7,24 @@ ghost use Rattle.pb_pair.specs.View.{if_known};
 
 use pb_pmem::{Line, LogOp, Pmem, PmemFault, make, make_all, write_lines};
 
-/// Gives lines to the device from a line on, and fences them. `before` is what stands there, where that is known.
+/// Gives lines to the device from a line on, and fences them. `spare` is what stands there, where that is known; it becomes these lines.
 pub fn stage<P: Pmem>(
     device: &mut P,
     first: u32,
     known: bool,
-    before: &[Line],
+    spare: &mut [Line],
     lines: &[Line],
 ) -> Result<(), PmemFault>
     requires room { first + length lines.now ≤ LINES }
-    requires before { length before.now ≡ length lines.now }
+    requires spare { length spare.old ≡ length lines.now }
     ensures ok { OnOk result
-        (Does (stage_over first (if_known known before.now) lines.now) (P.seen device.old) (P.seen device.new)) }
+        (Does (stage_over first (if_known known spare.old) lines.now) (P.seen device.old) (P.seen device.new)) }
     ensures err { OnErr result
-        (Stops (IsFailedPrefix (stage_over first (if_known known before.now) lines.now)) (P.seen device.old) (P.seen device.new)) }
+        (Stops (IsFailedPrefix (stage_over first (if_known known spare.old) lines.now)) (P.seen device.old) (P.seen device.new)) }
+    ensures there { OnOk result (spare.new ≡ lines.now) }
+    ensures long { length spare.new ≡ length lines.now }
 {
-    write_over(device, first, known, before, lines)?;
+    write_over(device, first, known, spare, lines)?;
     // The fence orders the record before the index word: the word can't be found without it.
     let count = lines.len() as u32;
     make_all(device, &[LogOp::Back { first, count }, LogOp::Fence])
@@ -33,41 +35,48 @@ fn write_over<P: Pmem>(
     device: &mut P,
     first: u32,
     known: bool,
-    before: &[Line],
+    spare: &mut [Line],
     lines: &[Line],
 ) -> Result<(), PmemFault>
     requires room { first + length lines.now ≤ LINES }
-    requires before { length before.now ≡ length lines.now }
+    requires spare { length spare.old ≡ length lines.now }
     ensures ok { OnOk result
-        (Does (writes_over first (if_known known before.now) lines.now) (P.seen device.old) (P.seen device.new)) }
+        (Does (writes_over first (if_known known spare.old) lines.now) (P.seen device.old) (P.seen device.new)) }
     ensures err { OnErr result
-        (Stops (IsFailedPrefix (writes_over first (if_known known before.now) lines.now)) (P.seen device.old) (P.seen device.new)) }
+        (Stops (IsFailedPrefix (writes_over first (if_known known spare.old) lines.now)) (P.seen device.old) (P.seen device.new)) }
+    ensures there { OnOk result (spare.new ≡ lines.now) }
+    ensures long { length spare.new ≡ length lines.now }
 {
     if known {
-        write_changes(device, first, before, lines)
+        write_changes(device, first, spare, lines)
     } else {
+        spare.copy_from_slice(lines);
         write_lines(device, first, lines)
     }
 }
 
-/// Writes those lines that differ from the ones that are there, in rising order.
+/// Writes those lines that differ from the ones that are there, in rising order, on the device and in memory. So the record is passed
+/// over once.
 fn write_changes<P: Pmem>(
     device: &mut P,
     first: u32,
-    before: &[Line],
+    spare: &mut [Line],
     lines: &[Line],
 ) -> Result<(), PmemFault>
     requires room { first + length lines.now ≤ LINES }
-    requires before { length before.now ≡ length lines.now }
-    ensures ok { OnOk result (Does (changes_from first before.now lines.now) (P.seen device.old) (P.seen device.new)) }
+    requires spare { length spare.old ≡ length lines.now }
+    ensures ok { OnOk result (Does (changes_from first spare.old lines.now) (P.seen device.old) (P.seen device.new)) }
     ensures err { OnErr result
-        (Stops (IsFailedPrefix (changes_from first before.now lines.now)) (P.seen device.old) (P.seen device.new)) }
+        (Stops (IsFailedPrefix (changes_from first spare.old lines.now)) (P.seen device.old) (P.seen device.new)) }
+    ensures there { OnOk result (spare.new ≡ lines.now) }
+    ensures long { length spare.new ≡ length lines.now }
 {
     for place in 0..lines.len() {
         let to = lines[place];
-        if differs(&before[place], &to) {
+        if differs(&spare[place], &to) {
             let line = first + place as u32;
             make(device, &LogOp::Whole { line, to })?;
+            spare[place] = to;
         }
     }
     Ok(())

@@ -1,5 +1,5 @@
 -- The two forms of what a crash may leave say the same.
-use Rattle.std.proofs.Common.{◌≡◌, ℕ, zero, suc, ◌+◌, ◌<◌, ◌≤◌, ◌⊎◌, true, false, List, [], ◌∷◌, ◌++◌, length, reverse, Any, ap, subst, sym, refl, ◌∙◌, inl, inr, arith}
+use Rattle.std.proofs.Common.{◌≡◌, ℕ, ◌+◌, ◌<◌, ◌≤◌, ◌⊎◌, true, false, List, [], ◌∷◌, ◌++◌, length, reverse, Any, ap, subst, sym, refl, ◌∙◌, inl, inr, arith}
 use Rattle.std.specs.List.{list_any}
 use Rattle.std.proofs.lemmas.Bool.{cases_Bool, cases_lt}
 use Rattle.std.proofs.lemmas.List.{append-nil, append_assoc, reverse-reverse}
@@ -12,7 +12,7 @@ use Rattle.pb_pmem.specs.Past.{Words, now, AtNextMark, Last, AllAtNextMark, AllL
 use Rattle.pb_pmem.proofs.Backed.{backed_past, unbacked_past, backed_writes-past, unbacked_writes-past, IsBackedOr, AtNextMark-backed, AtNextMark-from_backed}
 use Rattle.pb_pmem.proofs.AtNextMark.{mark-writes_none, mark-no_Back, sync-is_mark, Last-cases, Last-mark, Last-more, Last-none, Last-at_none, Leaves-cases, Leaves-more, Leaves-none, Leaves-at_none, Leaves-Last}
 use Rattle.pb_pmem.proofs.Lines.{contents-none}
-use Rattle.pb_pmem.proofs.Marks.{marks-append, marks_push_mark, marks_push_other, through_mark-append, through_mark_push, after_mark-append, after_mark_push, after_mark-nil, marks-after_mark, until_mark-none, until_mark-some, until_mark-nil, until_mark_one, until_mark_push_mark, Any-until_mark-append, through_last_sync_push, through_last_sync_push_other, least_cut-le}
+use Rattle.pb_pmem.proofs.Marks.{marks-append, marks_push_mark, marks_push_other, through_mark-nil, through_mark-append, through_mark_push, after_mark-append, after_mark_push, after_mark-nil, marks-after_mark, until_mark-none, until_mark-some, until_mark-nil, until_mark_one, until_mark_push_mark, Any-until_mark-append, through_last_sync_push, through_last_sync_push_other, least_cut-le}
 use Rattle.pb_pmem.proofs.AnyLemmas.{Any-nil, Any-here, Any-cases, Any-append_left, Any-append_right, Any-append_cases, Any-reverse, Any-from_reverse}
 use Rattle.pb_pmem.proofs.Words.{reverse-cons}
 
@@ -39,16 +39,11 @@ unbacked_one op e = rw (mark-writes_none op e) refl
 
 -- After an empty log
 
-through-nil : (cut : ℕ) → through_mark cut [] ≡ []
-unfolding through_mark
-through-nil zero = refl
-through-nil (suc cut) = refl
-
 settled-nil : (base : List Line) (cut : ℕ) → settled_content base cut [] ≡ base
-settled-nil base cut = rw (through-nil cut, backed-nil) (contents-none base)
+settled-nil base cut = rw (through_mark-nil cut, backed-nil) (contents-none base)
 
 loose-nil : (cut : ℕ) → loose_writes cut [] ≡ []
-loose-nil cut = rw (through-nil cut, unbacked-nil, after_mark-nil, until_mark-nil) refl
+loose-nil cut = rw (through_mark-nil cut, unbacked-nil, after_mark-nil, until_mark-nil) refl
 
 WordAt-nil : (base : List Line) (cut line word value : ℕ) → WordAt base [] cut line word value → value ≡ word_of base line word
 WordAt-nil base cut line word value (inl same) = same ∙ ap (λ lines. word_of lines line word) (settled-nil base cut)

@@ -11,19 +11,14 @@ use Rattle.pb_pmem.specs.Lines.{word_of}
 
 -- a sync
 abbrev pub is_sync : LogOp → Bool
-is_sync (Whole line to) = false
-is_sync (Word line word to) = false
-is_sync (Back first count) = false
-is_sync Fence = false
 is_sync Sync = true
+is_sync _ = false
 
 -- a mark is a fence or a sync
 abbrev pub is_mark : LogOp → Bool
-is_mark (Whole line to) = false
-is_mark (Word line word to) = false
-is_mark (Back first count) = false
 is_mark Fence = true
 is_mark Sync = true
+is_mark _ = false
 
 -- how many marks a log has; they are numbered from 1
 unfoldable pub marks : List LogOp → ℕ
@@ -65,17 +60,12 @@ until_mark (op ∷ log) = if is_mark op then [] else op ∷ until_mark log
 abbrev pub line_written : LogOp → Option ℕ
 line_written (Whole line to) = Some line
 line_written (Word line word to) = Some line
-line_written (Back first count) = None
-line_written Fence = None
-line_written Sync = None
+line_written _ = None
 
 -- the operation gives this line to the device
 abbrev pub is_back_of : ℕ → LogOp → Bool
-is_back_of line (Whole at to) = false
-is_back_of line (Word at word to) = false
 is_back_of line (Back first count) = nat_le first line && nat_lt line (first + count)
-is_back_of line Fence = false
-is_back_of line Sync = false
+is_back_of line _ = false
 
 -- a write of this line, if it is one, has a `Back` of the line after it
 abbrev pub is_backed : Option ℕ → List LogOp → Bool
@@ -116,9 +106,7 @@ settled_content base cut log = contents base (settled_writes cut log)
 abbrev pub MayWrite : ℕ → ℕ → ℕ → LogOp → Type 0
 MayWrite line word value (Whole at to) = at ≡ line
 MayWrite line word value (Word at place to) = (at ≡ line) × (place ≡ word) × (to ≡ value)
-MayWrite line word value (Back first count) = ⊥
-MayWrite line word value Fence = ⊥
-MayWrite line word value Sync = ⊥
+MayWrite line word value _ = ⊥
 
 -- an image that a crash at this cut may leave: each word has its settled value, or one that a loose write of it may leave
 pub record IsCrashImageAtCut (base : List Line) (log : List LogOp) (cut : ℕ) (image : List Line) : Type 0 where

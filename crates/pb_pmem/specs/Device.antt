@@ -46,10 +46,7 @@ IsNoOp _ = ⊥
 -- a write of the whole line, with any words
 abbrev pub IsWholeOf : ℕ → LogOp → Type 0
 IsWholeOf line (Whole at to) = at ≡ line
-IsWholeOf line (Word at word to) = ⊥
-IsWholeOf line (Back first count) = ⊥
-IsWholeOf line Fence = ⊥
-IsWholeOf line Sync = ⊥
+IsWholeOf line _ = ⊥
 
 -- this operation and no other
 abbrev pub Is : LogOp → LogOp → Type 0
@@ -57,11 +54,9 @@ Is op other = other ≡ op
 
 -- a fence or a sync
 abbrev pub IsMark : LogOp → Type 0
-IsMark (Whole line to) = ⊥
-IsMark (Word line word to) = ⊥
-IsMark (Back first count) = ⊥
 IsMark Fence = Unit {0}
 IsMark Sync = Unit {0}
+IsMark _ = ⊥
 
 -- what a call of the device that fails may have added in place of its operation
 abbrev pub MayAdd : LogOp → LogOp → Type 0

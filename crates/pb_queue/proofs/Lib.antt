@@ -1,6 +1,7 @@
 pub mod AnsweredRequests
 pub mod CellExits
 pub mod Finished
+pub mod InUse
 pub mod Made
 pub mod Opening
 pub mod Prepared

@@ -42,14 +42,16 @@ use Rattle.pb_engine.specs.Covers.{RoundCovers, FailedRoundCovers}
 use Rattle.pb_engine.specs.Operations.{puts_from, cell_ops, prepared_ops, committed_ops, round_ops, IsFailedRoundOps}
 use Rattle.pb_engine.specs.Outcomes.{stored_on_first, stored_on_second, HasMade, IsUnsure, HasFailedToMake, IsNextRecordOf}
 use Rattle.pb_engine.specs.Pairs.{is_sure, known_records, doubt_of}
-use Rattle.pb_engine.specs.View.{KnownRecords, known_of, IsKnown, was_called as engine_called}
-use Rattle.pb_engine.proofs.Pairs.{was_written, some_doubt, called_is}
+use Rattle.pb_engine.specs.View.{KnownRecords, known_of, AreInUse, was_called as engine_called}
+use Rattle.pb_engine.proofs.InUse.{HasInUse, stored_in_use}
+use Rattle.pb_engine.proofs.Pairs.{some_doubt, called_is}
 use Rattle.pb_engine.proofs.Served.{state_from-none}
 use Rattle.pb_queue.specs.Items.{ItemsView}
 use Rattle.pb_queue.specs.Rounds.{added_since, HavePut, HasFailedAmongCells, HasFailedAfterCells}
 use Rattle.pb_queue.specs.Standing.{standing_of}
 use Rattle.pb_queue.specs.View.{twin_view, LeavesRecord, HasDoubt, IsTwin}
 use Rattle.pb_queue.proofs.CellExits.{putting_cells, putting_cells_failing, ready_long}
+use Rattle.pb_queue.proofs.InUse.{in_engine, of_engine, put_in_use}
 use Rattle.pb_queue.proofs.Prepared.{rounds_are}
 use Rattle.pb_queue.proofs.Rounds.{round_for, IsRound, IsStep, side_here, after_is, store_next, are_free, next_in, held_is, have_cells, HasMoved, standing_moved, records_moved}
 use Rattle.pb_queue.proofs.Standings.{head_is, pair_of}
@@ -337,8 +339,9 @@ made pair between new old items after asks lines is confirmed stored = record {
       (does_then cells stores pair.device between.device new.device is.cells.device stored.device);
   first = on_first side pair between new old lines (tail_of old.sure) (added_since old.sure after) is.cells stored.first;
   second = on_second side pair between new old lines (tail_of old.sure) (added_since old.sure after) is.cells stored.second;
-  holds = λ known holds. if_some_mapped (λ (ls : List Line). IsHeld ls) (λ (ls : List Line). Represents ls s) (λ (ls : List Line). Represents ls (standing_of new items.sure)) (after_ops (cells ++ stores)) pair.device.now new.device.now
-      (does_then cells stores pair.device between.device new.device is.cells.device stored.device).now (held pair.device.now refl (written known)) holds stands;
+  holds = λ used holds. if_some_mapped (λ (ls : List Line). IsHeld ls) (λ (ls : List Line). Represents ls s) (λ (ls : List Line). Represents ls (standing_of new items.sure)) (after_ops (cells ++ stores)) pair.device.now new.device.now
+      (does_then cells stores pair.device between.device new.device is.cells.device stored.device).now (held pair.device.now refl (between_used side here (of_engine pair old [] side is.round.queue here used))) holds stands;
+  in_use = in_use;
 }
   where
     s : Standing
@@ -374,21 +377,27 @@ made pair between new old items after asks lines is confirmed stored = record {
     queue : between.head.kind ≡ Queue
     queue = ap (λ (h : Header). h.kind) is.cells.head ∙ is.round.queue
 
-    written : IsKnown (twin_view pair old []) side → (side_of between side).written ≡ true
-    written known = ap (λ (p : SideView). p.written) part ∙ was_written (side_of pair side) (λ none. known (ap (λ (k : KnownRecords). k.in_use) (known_is pair old [] side) ∙ none))
+    between_used : (one : ℕ) → one < 2 → HasInUse pair one → HasInUse between one
+    between_used one below used = put_in_use (tail_of old.sure) (added_since old.sure after) pair between one is.round.sound.valid is.round.queue below is.cells used
 
     -- the device's lines, whose record in use is the pair's once the cells are there
     IsHeld : List Line → Type 0
     IsHeld image = (record_in_use (contents image cells) between.head side (round_of between side) ≡ lines_of between side) × (between.device.now ≡ Some (contents image cells))
 
-    held : (now : Option (List Line)) → pair.device.now ≡ now → (side_of between side).written ≡ true → IfSome now (λ ls. IsHeld ls)
-    held None told known = tt
-    held (Some image) told known =
+    held : (now : Option (List Line)) → pair.device.now ≡ now → HasInUse between side → IfSome now (λ ls. IsHeld ls)
+    held None told used = tt
+    held (Some image) told used =
         let now : between.device.now ≡ Some (contents image cells) = is.cells.device.now ∙ ap (option_map (after_ops cells)) told in
-        ((is.cells.sound.holds (contents image cells) now side (omega (arith, here, ap side_count queue))).in_use known, now)
+        (subst (λ (o : Option (List Line)). IfSome o (λ ls. record_in_use ls between.head side (round_of between side) ≡ lines_of between side)) now used, now)
 
     next_pair : IsNext between side lines
     next_pair = store_next between old.sure after asks lines (round_between pair between old.sure after asks lines is)
+
+    in_use : AreInUse (twin_view pair old []) → AreInUse (twin_view new items [])
+    in_use before one below =
+        in_engine new items [] one (ap (λ (h : Header). h.kind) stored.head ∙ queue) below
+        (stored_in_use side lines between new one stored next_pair (omega (arith, below, ap side_count queue))
+        (between_used one below (of_engine pair old [] one is.round.queue below (before one below))))
 
     stands : (image : List Line) → IsHeld image → Represents image s → Represents (after_ops (cells ++ stores) image) (standing_of new items.sure)
     stands image has here_stands =

@@ -1,5 +1,5 @@
 -- A queue's engine over a pair that was just formatted or opened.
-use Rattle.std.proofs.Common.{◌≡◌, ◌≢◌, ℕ, zero, suc, ◌+◌, ◌<◌, Some, None, option_map, List, [], ◌∷◌, length, replicate, refl, sym, ap, subst, ◌∙◌, inl, arith}
+use Rattle.std.proofs.Common.{◌≡◌, ◌≢◌, ℕ, zero, suc, ◌+◌, ◌<◌, true, Some, None, option_map, List, [], ◌∷◌, length, replicate, refl, sym, ap, subst, ◌∙◌, inl, arith}
 use Rattle.std.proofs.lemmas.List.{append-nil, length-replicate, get_or-replicate}
 use Rattle.std.proofs.lemmas.List.Elements.{All-nil}
 use Rattle.pb_pmem.specs.declared.device.DeviceFault.{DeviceFault}
@@ -18,7 +18,7 @@ use Rattle.pb_object.specs.declared.request.TheConstants.{KEPT_REQUESTS}
 use Rattle.pb_object.specs.Object.{Waits}
 use Rattle.pb_object.specs.ObjectLines.{LinesRepresent}
 use Rattle.pb_object.specs.Queue.{Waiting, empty_queue}
-use Rattle.pb_object.specs.Standing.{rounds_of}
+use Rattle.pb_object.specs.Standing.{rounds_of, side_count}
 use Rattle.pb_layout.specs.declared.header.Header.{Header}
 use Rattle.pb_layout.specs.Damage.{HasRegion}
 use Rattle.pb_layout.specs.Exits.{IsEmptyRecord, AreEmptyRecords, records_of, empty_for}
@@ -42,16 +42,18 @@ use Rattle.pb_pair.specs.Cells.{IsNothing}
 use Rattle.pb_pair.specs.Format.{AreFirst, IsFormatted, IsFormatRefusal}
 use Rattle.pb_pair.specs.Open.{IsOpened, HasFailedRead}
 use Rattle.pb_pair.specs.Safe.{FormatCovers, FailedFormatCovers}
-use Rattle.pb_pair.specs.View.{SideView, PairView, HasFailed, lines_of}
+use Rattle.pb_pair.specs.View.{SideView, PairView, HasFailed, side_of, lines_of}
 use Rattle.pb_pair.proofs.Opened.{told_both}
 use Rattle.pb_pair.proofs.Told.{told_length, if_some_mapped}
 use Rattle.pb_engine.specs.Opening.{IsFresh, IsFreshRefusal, IsAdopted, IsAdoptRefusal}
 use Rattle.pb_engine.specs.Pairs.{is_sure, known_records}
-use Rattle.pb_engine.specs.View.{AreKnown}
+use Rattle.pb_engine.specs.View.{AreInUse}
+use Rattle.pb_engine.proofs.InUse.{written_in_use, opened_in_use}
 use Rattle.pb_queue.specs.Items.{ItemsView, none_waiting, empty_items}
 use Rattle.pb_queue.specs.Recovery.{Says, IsRecovered, IsRecoveryRefusal}
 use Rattle.pb_queue.specs.Standing.{standing_of}
 use Rattle.pb_queue.specs.View.{twin_view, IsTwin}
+use Rattle.pb_queue.proofs.InUse.{in_engine}
 use Rattle.pb_queue.proofs.Made.{settled_twin}
 use Rattle.pb_queue.proofs.Prepared.{two_lines, counts_stand, count_alone}
 use Rattle.pb_queue.proofs.Standings.{records_along, SaysStanding, standing_is, records_are}
@@ -185,22 +187,39 @@ fresh_is clients size lines old pair items has safely whole = record {
   no_region = has.formatted.no_region;
   holds = if_some_mapped (λ (ls : List Line). length ls ≡ LINES) (λ (ls : List Line). ¬ HasRegion ls) (λ (ls : List Line). Represents ls (empty_for (queue_header clients size))) (after (format_ops (queue_header clients size) lines lines)) old.now pair.device.now has.formatted.device.now whole has.formatted.no_region
       (λ image long bare. formatted_stands clients size lines image has.first long bare);
+  in_use = in_use;
   covers = safely (empty_records clients size lines has.first);
 }
+  where
+    queue : pair.head.kind ≡ Queue
+    queue = ap (λ (h : Header). h.kind) has.formatted.head
+
+    written : (side : ℕ) → (side_of pair side).written ≡ true
+    written zero = ap (λ (part : SideView). part.written) has.formatted.first_side
+    written (suc side) = ap (λ (part : SideView). part.written) has.formatted.second_side
+
+    in_use : AreInUse (twin_view pair items [])
+    in_use side below =
+        in_engine pair items [] side queue below (written_in_use pair side has.formatted.sound (omega (arith, below, ap side_count queue)) (written side))
 
 pub fresh_refusal : (clients size : ℕ) (lines : List Line) (old new : Device) (why : Why) → AreFirstLines clients size lines → IsFormatRefusal (queue_header clients size) lines lines old new why → FailedFormatCovers (queue_header clients size) lines lines old new → IsFreshRefusal (queue_header clients size) old new why
 fresh_refusal clients size lines old new why are refusal safely = record {
   first_lines = lines;
   second_lines = lines;
+  empty = λ fault is_device. empty_records clients size lines are;
   refusal = refusal;
   covers = safely (empty_records clients size lines are);
 }
+
+memory_is_none : (fault : DeviceFault) → Memory ≡ DeviceWhy fault → ⊥
+memory_is_none fault is = cc (is)
 
 -- where memory ran out, nothing was done
 pub fresh_memory : (clients size : ℕ) (old : Device) → IsWhole old → IsReplay old → IsFreshRefusal (queue_header clients size) old old Memory
 fresh_memory clients size old whole replay = record {
   first_lines = [];
   second_lines = [];
+  empty = λ fault is_device. absurd (memory_is_none fault is_device);
   refusal = refl;
   covers = λ tale told ready. inl (record {
     ops = [];
@@ -222,11 +241,12 @@ adopted_twin pair items next opened queue is long = settled_twin pair items next
   none = opened.doubt;
 })
 
-pub adopted_is : (pair : PairView) (items : ItemsView) → IsOpened pair.device pair → IsRecovered pair items → IsAdopted pair.device (twin_view pair items [])
-adopted_is pair items opened is = record {
+pub adopted_is : (pair : PairView) (items : ItemsView) → IsOpened pair.device pair → pair.head.kind ≡ Queue → IsRecovered pair items → IsAdopted pair.device (twin_view pair items [])
+adopted_is pair items opened queue is = record {
   same = refl;
   stands = told_both pair.device.now (λ (ls : List Line). length ls ≡ LINES) (Says (standing_of pair items.sure)) (λ (ls : List Line). Represents ls (standing_of pair items.sure))
       (λ image long says. record { whole = long; passes = says.passes; says = says.says }) opened.whole is.told;
+  in_use = λ side below. in_engine pair items [] side queue below (opened_in_use pair side opened (omega (arith, below, ap side_count queue)));
   doubt = refl;
   sure = ap is_sure opened.known;
   first = ap known_records (opened.sound.unsure_first unsure);

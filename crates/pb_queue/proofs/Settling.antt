@@ -13,7 +13,7 @@ use Rattle.pb_object.specs.declared.request.Ask.{Ask}
 use Rattle.pb_object.specs.History.{Round, after_round}
 use Rattle.pb_object.specs.Object.{Waits}
 use Rattle.pb_object.specs.Queue.{Waiting}
-use Rattle.pb_object.specs.Standing.{Standing}
+use Rattle.pb_object.specs.Standing.{Standing, side_count}
 use Rattle.pb_layout.specs.declared.header.Header.{Header}
 use Rattle.pb_layout.specs.Doubt.{IsRoundInDoubt, HasRoundLanded}
 use Rattle.pb_layout.specs.Exits.{sealed_round}
@@ -30,19 +30,21 @@ use Rattle.pb_layout_laws.proofs.Settling.{settling_leaves_one}
 use Rattle.pb_pair.specs.declared.known.Known.TheVariants.{Sure}
 use Rattle.pb_pair.specs.Safe.{IsPairOf, IsDoubtOf, SettleCovers, FailedSettleCovers}
 use Rattle.pb_pair.specs.Settle.{was_called, settled_side, settled_by, settled_ops, IsSettled}
-use Rattle.pb_pair.specs.View.{SideView, DoubtView, PairView, lines_of, forgotten, HasFailed}
+use Rattle.pb_pair.specs.View.{SideView, DoubtView, PairView, side_of, lines_of, forgotten, HasFailed}
 use Rattle.pb_pair.proofs.Safe.{not_called, settles_found, settles_after}
 use Rattle.pb_pair.proofs.Told.{if_some_mapped}
 use Rattle.pb_engine.specs.Asks.{MayBeServed, side_asked, state_from, asked_round}
 use Rattle.pb_engine.specs.Covers.{SettleCovers as EngineSettleCovers, FailedSettleCovers as EngineFailedSettleCovers}
 use Rattle.pb_engine.specs.Outcomes.{HasSettled, HasFailedToSettle}
 use Rattle.pb_engine.specs.Pairs.{is_sure, known_records, doubt_of}
-use Rattle.pb_engine.specs.View.{EngineView, nothing_known, settled_standing, was_called as engine_called}
+use Rattle.pb_engine.specs.View.{EngineView, AreInUse, nothing_known, settled_standing, was_called as engine_called}
+use Rattle.pb_engine.proofs.InUse.{settled_in_use}
 use Rattle.pb_engine.proofs.Pairs.{known_unsure, known_none, some_doubt, round_as, uncalled_standing, called_standing}
 use Rattle.pb_engine.proofs.Served.{served_is_legal}
 use Rattle.pb_queue.specs.Items.{ItemsView}
 use Rattle.pb_queue.specs.Standing.{standing_of}
 use Rattle.pb_queue.specs.View.{twin_view, LeavesRecord, IsTwin}
+use Rattle.pb_queue.proofs.InUse.{in_engine, of_engine}
 use Rattle.pb_queue.proofs.Made.{HasConfirmed, settled_twin, unsure, StaysStanding, lines_stay, standing_stays, records_stay}
 use Rattle.pb_queue.proofs.Rounds.{round_for, IsRound, side_here, HasMoved, standing_moved, records_moved}
 use Rattle.pb_queue.proofs.Standings.{pair_of}
@@ -136,6 +138,7 @@ found old new items final next asked is uncalled settled reverted = record {
   holds = λ none holds. if_some_mapped (λ (ls : List Line). Represents ls s) (λ (ls : List Line). Represents ls s) (λ (ls : List Line). Represents ls (standing_of new final.sure)) (after_ops (settle_to (header_for s) s)) old.device.now new.device.now
       (subst (λ (to : List LogOp). new.device.now ≡ option_map (after_ops to) old.device.now) (settles_found old s (pair_of old items.sure is.is.queue) uncalled) settled.device.now) holds holds
       (λ image here _. subst (Represents (after_ops (settle_to (header_for s) s) image)) (sym same) (settled_stands image s here));
+  in_use = λ none. in_use;
 }
   where
     s : Standing
@@ -152,6 +155,15 @@ found old new items final next asked is uncalled settled reverted = record {
 
     ops : settled_ops old ≡ settle_to (header_for (standing_of new final.sure)) (standing_of new final.sure)
     ops = settles_found old s (pair_of old items.sure is.is.queue) uncalled ∙ ap (λ (t : Standing). settle_to (header_for t) t) (sym same)
+
+    part : (side : ℕ) → side_of new side ≡ forgotten (side_of old side)
+    part zero = stays.first
+    part (suc side) = stays.second
+
+    in_use : AreInUse (twin_view old items asked) → AreInUse (twin_view new final [])
+    in_use before side below =
+        in_engine new final [] side (ap (λ (h : Header). h.kind) stays.head ∙ is.is.queue) below
+        (settled_in_use old new side settled (part side) (omega (arith, below, ap side_count is.is.queue)) (of_engine old items asked side is.is.queue below (before side below)))
 
 -- Where one was called
 
@@ -220,6 +232,7 @@ decided old new items final next asked is called settled confirmed = record {
   first = ap known_records settled.first ∙ forgets old.doubt 0 old.first (is.is.sound.unsure_first unknown);
   second = ap known_records settled.second ∙ forgets old.doubt 1 old.second (is.is.sound.unsure_second unknown);
   holds = λ none holds. absurd (none_called none);
+  in_use = λ none before. absurd (none_called none);
 }
   where
     s : Standing

@@ -17,14 +17,14 @@ use Rattle.pb_pair.specs.Settle.{was_called}
 use Rattle.pb_pair.specs.View.{PairView, lines_of}
 use Rattle.pb_engine.specs.Asks.{state_from}
 use Rattle.pb_engine.specs.Pairs.{is_sure, doubt_of}
-use Rattle.pb_engine.specs.View.{FailedRound, IsEngine, HoldsKnown, known_of}
+use Rattle.pb_engine.specs.View.{FailedRound, IsEngine, HoldsKnown, known_of, record_in_memory}
 use Rattle.pb_engine.proofs.Pairs.{round_as}
 use Rattle.pb_engine.proofs.Served.{served_is_legal, state_from-none}
 use Rattle.pb_queue.specs.Items.{ItemsView}
 use Rattle.pb_queue.specs.Standing.{standing_of}
 use Rattle.pb_queue.specs.View.{twin_view, HasDoubt, IsTwin}
 use Rattle.pb_queue.proofs.Standings.{head_is}
-use Rattle.pb_engine.proofs.Known.{known_holds}
+use Rattle.pb_engine.proofs.Known.{known_holds, known_in_memory}
 
 -- a sure engine has no request in doubt
 pub none_in_doubt : (pair : PairView) (items : ItemsView) (next : List Line) (asked : List Ask) → IsTwin pair items next asked → is_sure pair.known ≡ true → asked ≡ []
@@ -51,8 +51,13 @@ engine_of pair items next asked is = record {
   decided = λ sure. ap (λ (asks : List Ask). doubt_of (standing_of pair items.sure) asks (was_called pair.doubt)) (none_in_doubt pair items next asked is sure);
   legal = legal asked is.some;
   records = records;
+  in_memory = in_memory;
 }
   where
+    in_memory : (side : ℕ) → side < 2 → (lines : List Line) → (known_of (twin_view pair items asked) side).in_use ≡ Some lines → record_in_memory (twin_view pair items asked) side ≡ lines
+    in_memory zero below lines known = known_in_memory pair.first lines known
+    in_memory (suc side) below lines known = known_in_memory pair.second lines known
+
     head : header_for (standing_of pair items.sure) ≡ pair.head
     head = λ i. record { kind = sym is.queue i; clients = pair.head.clients; size = pair.head.size }
 

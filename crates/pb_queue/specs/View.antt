@@ -25,6 +25,8 @@ twin_view pair items asked = record {
   device = pair.device;
   first = known_records pair.first;
   second = known_records pair.second;
+  first_record = pair.first.lines;
+  second_record = pair.second.lines;
 }
 
 -- the record that a failed round left in the pair: none, where it failed among its cells, or the one that it makes of the one in use

@@ -4,6 +4,8 @@ use Rattle.std.specs.Io.KnownBytes.{Keeps}
 use Rattle.pb_pmem.specs.Count.{Rose}
 use Rattle.pb_io.specs.declared.sink.SinkFault.{SinkFault}
 use Rattle.pb_io.specs.SinkBytes.{AppendsSome}
+use Rattle.pb_object.specs.Object.{Rising}
+use Rattle.pb_object.specs.ObjectLines.{size_of}
 use Rattle.pb_engine.specs.View.{EngineView}
 use Rattle.pb_region_report.specs.declared.any.AnyEngine.{AnyEngine}
 use Rattle.pb_region_report.specs.declared.any.AnyEngine.TheVariants.{Map, Stack, Heap, Queue}
@@ -16,6 +18,13 @@ view_of (Map comb) = comb
 view_of (Stack comb) = comb
 view_of (Heap comb) = comb
 view_of (Queue queue) = queue
+
+-- these are a heap's items in rising order; of other kinds nothing is said
+abbrev pub ListsHeap : {P : Type 0} → AnyEngine P → List ℕ → Type 0
+ListsHeap (Map comb) rising = Unit {0}
+ListsHeap (Stack comb) rising = Unit {0}
+ListsHeap (Heap comb) rising = comb.standing.state ≡ Rising (size_of comb.standing.state) rising
+ListsHeap (Queue queue) rising = Unit {0}
 
 -- what became of the sink's bytes and its count of faults: as before where memory ran out, and else the count rose and some of the
 -- first bytes of the text are written

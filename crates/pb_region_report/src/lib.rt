@@ -10,6 +10,6 @@ mod object_lines;
 mod report;
 mod unwritten;
 
-pub use any::{AnyEngine, write_report};
+pub use any::{AnyEngine, rising_items, write_prepared, write_report};
 pub use report::{write_heap, write_map, write_queue, write_stack};
 pub use unwritten::Unwritten;

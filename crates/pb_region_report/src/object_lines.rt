@@ -1,24 +1,25 @@
 //! The lines of objects.
-ghost use Rattle.std.specs.Prelude.{◌≡◌, ◌+◌, ◌<◌, ◌≤◌, ◌^◌, ◌++◌, codes, count_by, length, slice_index};
+ghost use Rattle.std.specs.Prelude.{◌≡◌, ◌+◌, ◌<◌, ◌≤◌, ◌^◌, ◌++◌, [], ◌∷◌, codes, count_by, length, slice_index};
 ghost use Rattle.pb_object.specs.Map.{register_at};
 ghost use Rattle.pb_queue.specs.Waits.{items_in, tail_in, taken_in, waiting_of};
-ghost use Rattle.pb_region_report.specs.ReportText.{count_line, is_written, item_line, register_line, waiting_line};
+ghost use Rattle.pb_report.specs.Pieces.{numbered};
+ghost use Rattle.pb_region_report.specs.ReportText.{is_written, register_line};
 
 use pb_map::RegMap;
 use pb_object::Object;
 use pb_pmem::Pmem;
 use pb_queue::TwinQueue;
-use pb_report::{Lines, Text, push_number, push_spaced};
+use pb_report::{Lines, Text, push_spaced};
 use pb_stack::Stack;
 
 /// How many there are of something.
 pub fn count_line(word: &str, count: u64) -> Text
     requires { length word.now ≤ 32 }
-    ensures { result.bytes ≡ count_line word.now count }
+    ensures { result.bytes ≡ numbered word.now (count ∷ []) }
 {
     let mut text = Text::new();
     text.push_str(word);
-    push_number(&mut text, count);
+    push_spaced(&mut text, count);
     text.push_str("\n");
     text
 }
@@ -66,8 +67,8 @@ fn register_text(key: u32, value: u64, version: u64) -> Text
 {
     let mut text = Text::new();
     if version > 0 {
-        text.push_str("register ");
-        push_number(&mut text, u64::from(key));
+        text.push_str("register");
+        push_spaced(&mut text, u64::from(key));
         push_spaced(&mut text, value);
         push_spaced(&mut text, version);
         text.push_str("\n");
@@ -87,7 +88,7 @@ pub struct ItemLines<'a> {
 impl Lines for ItemLines<'_> {
     ghost line_count = { λ lines. length lines.stack.now.items };
 
-    ghost line_at = { λ lines place. item_line (slice_index lines.stack.now.items place) };
+    ghost line_at = { λ lines place. numbered (codes "item") (slice_index lines.stack.now.items place ∷ []) };
 
     fn count(&self) -> usize {
         self.depth as usize
@@ -107,7 +108,7 @@ pub struct RisingLines<'a> {
 impl Lines for RisingLines<'_> {
     ghost line_count = { λ lines. length lines.rising.now };
 
-    ghost line_at = { λ lines place. item_line (slice_index lines.rising.now place) };
+    ghost line_at = { λ lines place. numbered (codes "item") (slice_index lines.rising.now place ∷ []) };
 
     fn count(&self) -> usize {
         self.rising.len()
@@ -119,11 +120,11 @@ impl Lines for RisingLines<'_> {
 }
 
 fn item_text(item: u64) -> Text
-    ensures { result.bytes ≡ item_line item }
+    ensures { result.bytes ≡ numbered (codes "item") (item ∷ []) }
 {
     let mut text = Text::new();
-    text.push_str("item ");
-    push_number(&mut text, item);
+    text.push_str("item");
+    push_spaced(&mut text, item);
     text.push_str("\n");
     text
 }
@@ -142,7 +143,7 @@ impl<P: Pmem> Lines for WaitingLines<'_, P> {
     ghost line_count = { λ lines. length (items_in lines.queue.now.standing.state) };
 
     ghost line_at = { λ lines place. let waiting = waiting_of lines.queue.now.standing.state in
-        waiting_line (slice_index waiting.items place) (waiting.taken + place) };
+        numbered (codes "item") (slice_index waiting.items place ∷ (waiting.taken + place) ∷ []) };
 
     fn count(&self) -> usize {
         (self.tail - self.head) as usize
@@ -155,11 +156,11 @@ impl<P: Pmem> Lines for WaitingLines<'_, P> {
 }
 
 fn waiting_text(item: u64, position: u64) -> Text
-    ensures { result.bytes ≡ waiting_line item position }
+    ensures { result.bytes ≡ numbered (codes "item") (item ∷ position ∷ []) }
 {
     let mut text = Text::new();
-    text.push_str("item ");
-    push_number(&mut text, item);
+    text.push_str("item");
+    push_spaced(&mut text, item);
     push_spaced(&mut text, position);
     text.push_str("\n");
     text

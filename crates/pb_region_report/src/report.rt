@@ -34,7 +34,7 @@ pub fn write_map<K: Sink, P: Pmem>(sink: &mut K, comb: &Comb<RegMap, P>) -> Resu
 {
     let map = comb.object();
     let size = map.size();
-    let count = count_line("registers ", written_count(map));
+    let count = count_line("registers", written_count(map));
     let head = comb_head(comb);
     write_region(sink, comb, &head, &count, &RegisterLines { map, size })
 }
@@ -49,7 +49,7 @@ pub fn write_stack<K: Sink, P: Pmem>(sink: &mut K, comb: &Comb<Stack, P>) -> Res
 {
     let stack = comb.object();
     let depth = stack.depth();
-    let count = count_line("items ", u64::from(depth));
+    let count = count_line("items", u64::from(depth));
     let head = comb_head(comb);
     write_region(sink, comb, &head, &count, &ItemLines { stack, depth })
 }
@@ -67,7 +67,7 @@ pub fn write_heap<K: Sink, P: Pmem>(
     ensures err { OnErr result (AppendsSome (K.bytes sink.old) (K.bytes sink.new) (report_text comb.now.standing)) }
     ensures cause { HasCause (K.fault_count sink.old) (K.fault_count sink.new) result }
 {
-    let count = count_line("items ", rising.len() as u64);
+    let count = count_line("items", rising.len() as u64);
     let head = comb_head(comb);
     write_region(sink, comb, &head, &count, &RisingLines { rising })
 }
@@ -83,7 +83,7 @@ pub fn write_queue<K: Sink, P: Pmem>(sink: &mut K, queue: &TwinQueue<P>) -> Resu
     let text = queue_head(queue);
     let head = queue.head();
     let tail = queue.tail();
-    let count = count_line("items ", tail - head);
+    let count = count_line("items", tail - head);
     write_region(
         sink,
         queue,

@@ -9,7 +9,7 @@ use Rattle.pb_object.specs.Standing.{keep}
 use Rattle.pb_report.specs.declared.outcome.Outcome.{Outcome}
 use Rattle.pb_report.specs.declared.outcome.Outcome.TheVariants.{New, Kept, Old, Gap, Changed, Doubt, Left}
 use Rattle.pb_report.specs.Laws.{AgreeUntilDoubt, HasNoDoubt}
-use Rattle.pb_report.specs.Outcomes.{AreLeft, AreLines, GoesOn, IsLine, decided_outcome, entry_of, lines_of}
+use Rattle.pb_report.specs.Outcomes.{AreLeft, AreLines, GoesOn, IsLine, decided_outcome, entry_of, lines_of_client}
 use Rattle.pb_report.proofs.EntryLemmas.{HasOneForEach}
 
 abbrev Line : Type 0
@@ -17,13 +17,13 @@ Line = Ask × Outcome
 
 -- lines that are left agree
 left_agree : (client : ℕ) (asks : List Ask) (first second : List Outcome) → length first ≡ length asks → length second ≡ length asks
-    → AreLeft (lines_of client (zip asks first)) → AreLeft (lines_of client (zip asks second)) → AgreeUntilDoubt (lines_of client (zip asks first)) (lines_of client (zip asks second))
+    → AreLeft (lines_of_client client (zip asks first)) → AreLeft (lines_of_client client (zip asks second)) → AgreeUntilDoubt (lines_of_client client (zip asks first)) (lines_of_client client (zip asks second))
 left_agree client [] first second l m x y = tt
 left_agree client (ask ∷ asks) [] second l m x y = absurd (omega arith)
 left_agree client (ask ∷ asks) (o ∷ first) [] l m x y = absurd (omega arith)
 left_agree client (ask ∷ asks) (o ∷ first) (p ∷ second) l m x y =
-    let firsts = lines_of client (zip asks first) in
-    let seconds = lines_of client (zip asks second) in
+    let firsts = lines_of_client client (zip asks first) in
+    let seconds = lines_of_client client (zip asks second) in
     elim (eqb ask.client client) as (λ own. AreLeft (cond own ((ask, o) ∷ firsts) firsts) → AreLeft (cond own ((ask, p) ∷ seconds) seconds)
     → AgreeUntilDoubt (cond own ((ask, o) ∷ firsts) firsts) (cond own ((ask, p) ∷ seconds) seconds)) [
       | true ↦ λ x y. inr (inr (
@@ -76,14 +76,14 @@ step history kept ask firsts seconds one None Left p on left x y = absurd x
 
 -- the lines of a client agree until one of them is in doubt
 pub lines_agree : (history : History) → HasOneForEach history → (client : ℕ) (asks : List Ask) (first second : List Outcome) (kept : List KeptRequest) → length first ≡ length asks → length second ≡ length asks
-    → AreLines history kept (lines_of client (zip asks first)) → AreLines history kept (lines_of client (zip asks second)) → AgreeUntilDoubt (lines_of client (zip asks first)) (lines_of client (zip asks second))
+    → AreLines history kept (lines_of_client client (zip asks first)) → AreLines history kept (lines_of_client client (zip asks second)) → AgreeUntilDoubt (lines_of_client client (zip asks first)) (lines_of_client client (zip asks second))
 unfolding AreLines
 lines_agree history one client [] first second kept l m x y = tt
 lines_agree history one client (ask ∷ asks) [] second kept l m x y = absurd (omega arith)
 lines_agree history one client (ask ∷ asks) (o ∷ first) [] kept l m x y = absurd (omega arith)
 lines_agree history one client (ask ∷ asks) (o ∷ first) (p ∷ second) kept l m x y =
-    let firsts = lines_of client (zip asks first) in
-    let seconds = lines_of client (zip asks second) in
+    let firsts = lines_of_client client (zip asks first) in
+    let seconds = lines_of_client client (zip asks second) in
     elim (eqb ask.client client) as (λ own. AreLines history kept (cond own ((ask, o) ∷ firsts) firsts) → AreLines history kept (cond own ((ask, p) ∷ seconds) seconds)
     → AgreeUntilDoubt (cond own ((ask, o) ∷ firsts) firsts) (cond own ((ask, p) ∷ seconds) seconds)) [
       | true ↦ λ x y. step history kept ask firsts seconds one (decided_outcome kept ask) o p
@@ -113,7 +113,7 @@ no_doubt_rest o outcomes none = λ there. none (suc there.0, omega (arith, there
 
 -- lists without a doubt whose lines agree are one
 pub all_agree : (asks : List Ask) (first second : List Outcome) → length first ≡ length asks → length second ≡ length asks → HasNoDoubt first → HasNoDoubt second
-    → ((client : ℕ) → AgreeUntilDoubt (lines_of client (zip asks first)) (lines_of client (zip asks second))) → first ≡ second
+    → ((client : ℕ) → AgreeUntilDoubt (lines_of_client client (zip asks first)) (lines_of_client client (zip asks second))) → first ≡ second
 all_agree [] [] [] l m no_first no_second agree = refl
 all_agree [] [] (p ∷ second) l m no_first no_second agree = absurd (omega arith)
 all_agree [] (o ∷ first) second l m no_first no_second agree = absurd (omega arith)
@@ -122,8 +122,8 @@ all_agree (ask ∷ asks) (o ∷ first) [] l m no_first no_second agree = absurd 
 all_agree (ask ∷ asks) (o ∷ first) (p ∷ second) l m no_first no_second agree =
     let no_o = no_doubt_first o first no_first in
     let no_p = no_doubt_first p second no_second in
-    let one = first_agrees (eqb ask.client ask.client) (ask, o) (ask, p) (lines_of ask.client (zip asks first)) (lines_of ask.client (zip asks second)) (eq-eqb ask.client ask.client refl) no_o no_p (agree ask.client) in
+    let one = first_agrees (eqb ask.client ask.client) (ask, o) (ask, p) (lines_of_client ask.client (zip asks first)) (lines_of_client ask.client (zip asks second)) (eq-eqb ask.client ask.client refl) no_o no_p (agree ask.client) in
     let same : o ≡ p = ap (λ (line : Line). line.1) one in
     let rest : first ≡ second = all_agree asks first second (omega arith) (omega arith) (no_doubt_rest o first no_first) (no_doubt_rest p second no_second)
-    (λ client. rest_agrees (eqb ask.client client) (ask, o) (ask, p) (lines_of client (zip asks first)) (lines_of client (zip asks second)) no_o no_p (agree client)) in
+    (λ client. rest_agrees (eqb ask.client client) (ask, o) (ask, p) (lines_of_client client (zip asks first)) (lines_of_client client (zip asks second)) no_o no_p (agree client)) in
     ap (λ (outcome : Outcome). outcome ∷ first) same ∙ ap (λ (outcomes : List Outcome). p ∷ outcomes) rest

@@ -5,7 +5,7 @@ use Rattle.std.proofs.lemmas.List.{get_or-set_same, get_or-set_other}
 use Rattle.pb_object.specs.declared.request.Kept.{Kept}
 use Rattle.pb_object.specs.History.{Entry, Round, History, kept_by, after_entry, after_entries, after_round, IsLegalEntry, AreLegal, IsLegalRound, IsLegal}
 use Rattle.pb_object.specs.Standing.{Standing, keep, kept_list_of, newest, newest_of}
-use Rattle.pb_report.specs.Outcomes.{IsRecorded}
+use Rattle.pb_report.specs.Outcomes.{HasEntry}
 
 -- the entry is one of these
 abbrev pub IsIn : Entry → List Entry → Type 0
@@ -26,7 +26,7 @@ in_history_from [] entry round place below is member = absurd (omega arith)
 in_history_from (first ∷ history) entry round zero below is member = inl (subst (λ (r : Round). IsIn entry r.entries) (sym is) member)
 in_history_from (first ∷ history) entry round (suc place) below is member = inr (in_history_from history entry round place (omega arith) is member)
 
-pub in_history : (history : History) (entry : Entry) → IsRecorded history entry → IsInHistory entry history
+pub in_history : (history : History) (entry : Entry) → HasEntry history entry → IsInHistory entry history
 in_history history entry h = in_history_from history entry h.round h.told.0 h.told.1 h.told.2 (in_from h.round.entries entry h.member.0 h.member.1 h.member.2)
 
 -- the number of a client's newest kept request
@@ -37,18 +37,18 @@ last_of s client = (newest_of s client).number
 abbrev pub IsFull : Standing → Type 0
 IsFull s = length s.kept ≡ s.clients
 
-full_after : (s : Standing) (entry : Entry) → IsFull s → IsFull (after_entry s entry)
+pub full_after : (s : Standing) (entry : Entry) → IsFull s → IsFull (after_entry s entry)
 full_after s entry full = grind (arith, length-set)
 
-last_same : (s : Standing) (entry : Entry) → entry.client < length s.kept → last_of (after_entry s entry) entry.client ≡ entry.number
+pub last_same : (s : Standing) (entry : Entry) → entry.client < length s.kept → last_of (after_entry s entry) entry.client ≡ entry.number
 last_same s entry below =
     ap (λ (kept : List Kept). (newest kept).number) (get_or-set_same s.kept entry.client (keep (kept_by entry) (kept_list_of s entry.client)) [] below)
 
-last_other : (s : Standing) (entry : Entry) (client : ℕ) → client ≢ entry.client → last_of (after_entry s entry) client ≡ last_of s client
+pub last_other : (s : Standing) (entry : Entry) (client : ℕ) → client ≢ entry.client → last_of (after_entry s entry) client ≡ last_of s client
 last_other s entry client other =
     ap (λ (kept : List Kept). (newest kept).number) (get_or-set_other s.kept entry.client client (keep (kept_by entry) (kept_list_of s entry.client)) [] other)
 
-same_or_other : (m n : ℕ) → (m ≡ n) ⊎ (m ≢ n)
+pub same_or_other : (m n : ℕ) → (m ≡ n) ⊎ (m ≢ n)
 same_or_other m n = elim (eqb m n) as (λ test. eqb m n ≡ test → (m ≡ n) ⊎ (m ≢ n)) [
   | true ↦ λ e. inl (eqb-true m n e)
   | false ↦ λ e. inr (λ is. absurd (false≢true (sym e ∙ eq-eqb m n is)))
@@ -65,14 +65,14 @@ last_rises s side entry client full legal = elim (same_or_other client entry.cli
 ]
 
 -- so it is after several entries
-last_rises_over : (s : Standing) (side : ℕ) (entries : List Entry) (client : ℕ) → IsFull s → AreLegal s side entries → last_of s client ≤ last_of (after_entries s entries) client
+pub last_rises_over : (s : Standing) (side : ℕ) (entries : List Entry) (client : ℕ) → IsFull s → AreLegal s side entries → last_of s client ≤ last_of (after_entries s entries) client
 last_rises_over s side [] client full legal = omega arith
 last_rises_over s side (entry ∷ entries) client full legal =
     let first = last_rises s side entry client full legal.0 in
     let more = last_rises_over (after_entry s entry) side entries client (full_after s entry full) legal.1 in
     omega arith
 
-full_after_all : (s : Standing) (entries : List Entry) → IsFull s → IsFull (after_entries s entries)
+pub full_after_all : (s : Standing) (entries : List Entry) → IsFull s → IsFull (after_entries s entries)
 full_after_all s [] full = full
 full_after_all s (entry ∷ entries) full = full_after_all (after_entry s entry) entries (full_after s entry full)
 
@@ -86,7 +86,7 @@ above s side (first ∷ entries) entry full legal (inr member) =
     omega arith
 
 -- and none above the last ones after them
-within : (s : Standing) (side : ℕ) (entries : List Entry) (entry : Entry) → IsFull s → AreLegal s side entries → IsIn entry entries → entry.number ≤ last_of (after_entries s entries) entry.client
+pub within : (s : Standing) (side : ℕ) (entries : List Entry) (entry : Entry) → IsFull s → AreLegal s side entries → IsIn entry entries → entry.number ≤ last_of (after_entries s entries) entry.client
 within s side [] entry full legal member = absurd member
 within s side (first ∷ entries) entry full legal (inl is) =
     subst (λ (e : Entry). e.number ≤ last_of (after_entries (after_entry s first) entries) e.client) is
@@ -138,7 +138,7 @@ one_in_history s (round ∷ history) a b full legal (inr x) (inr y) client numbe
 
 -- two entries of a client with one number are one
 abbrev pub HasOneForEach : History → Type 0
-HasOneForEach history = (a b : Entry) → IsRecorded history a → IsRecorded history b → a.client ≡ b.client → a.number ≡ b.number → a ≡ b
+HasOneForEach history = (a b : Entry) → HasEntry history a → HasEntry history b → a.client ≡ b.client → a.number ≡ b.number → a ≡ b
 
 pub one_for_each : (s : Standing) (history : History) → IsFull s → IsLegal s history → HasOneForEach history
 one_for_each s history full legal = λ a b x y client number. one_in_history s history a b full legal (in_history history a x) (in_history history b y) client number

@@ -4,34 +4,15 @@ use Rattle.std.proofs.lemmas.Bool.{false≢true}
 use Rattle.std.proofs.lemmas.List.Elements.{All-append}
 use Rattle.pb_object.specs.declared.request.Ask.{Ask}
 use Rattle.pb_object.specs.declared.request.Kept.{Kept as KeptRequest}
-use Rattle.pb_object.specs.History.{Entry, History, kept_by}
-use Rattle.pb_object.specs.Standing.{keep, newest}
+use Rattle.pb_object.specs.History.{Entry, History}
+use Rattle.pb_object.specs.Standing.{newest}
 use Rattle.pb_report.specs.declared.outcome.Outcome.{Outcome}
 use Rattle.pb_report.specs.declared.outcome.Outcome.TheVariants.{New, Kept, Old, Gap, Changed, Doubt, Left}
-use Rattle.pb_report.specs.Outcomes.{AreLeft, AreLines, GoesOn, IsLine, IsRecorded, decided_outcome, entry_of, is_same_op, kept_with, outcome_by}
+use Rattle.pb_report.specs.GoingOn.{is_ending, has_ended, kept_next, kept_after}
+use Rattle.pb_report.specs.Outcomes.{AreLeft, AreLines, GoesOn, IsLine, HasEntry, decided_outcome, entry_of, is_same_op, kept_with, outcome_by}
 
 abbrev pub Line : Type 0
 Line = Ask × Outcome
-
--- a client's further lines are left after this outcome
-abbrev pub is_ending : Outcome → Bool
-is_ending Gap = true
-is_ending Changed = true
-is_ending Doubt = true
-is_ending _ = false
-
-abbrev pub has_ended : List Line → Bool
-has_ended [] = false
-has_ended (line ∷ lines) = is_ending line.1 || has_ended lines
-
--- what is kept of a client after a line, and after several
-abbrev pub kept_next : List KeptRequest → Ask → Outcome → List KeptRequest
-kept_next kept ask (New reply) = keep (kept_by (entry_of ask reply)) kept
-kept_next kept ask _ = kept
-
-abbrev pub kept_after : List KeptRequest → List Line → List KeptRequest
-kept_after kept [] = kept
-kept_after kept (line ∷ lines) = kept_after (kept_next kept line.0 line.1) lines
 
 -- an outcome that kept requests decide
 abbrev IsDecided : Outcome → Type 0
@@ -136,7 +117,7 @@ lines_leave history (line ∷ lines) kept ask lines_are some =
 
 -- a history with more entries has the same lines
 abbrev pub HasEntriesOf : History → History → Type 0
-HasEntriesOf longer history = (entry : Entry) → IsRecorded history entry → IsRecorded longer entry
+HasEntriesOf longer history = (entry : Entry) → HasEntry history entry → HasEntry longer entry
 
 line_over : (decided : Option Outcome) (history longer : History) (kept : List KeptRequest) (ask : Ask) (o : Outcome) (on : List KeptRequest → Type 0) (left : Type 0)
     → HasEntriesOf longer history → IsLine decided history kept ask o on left → IsLine decided longer kept ask o on left

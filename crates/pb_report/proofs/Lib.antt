@@ -1,5 +1,5 @@
 mod AgreeLemmas
-mod EntryLemmas
+pub mod EntryLemmas
 pub mod GoingOn
 mod PieceLemmas
 mod TextLemmas

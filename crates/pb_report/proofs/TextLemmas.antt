@@ -1,13 +1,10 @@
 -- What a text of outcomes tells.
-use Rattle.std.proofs.Common.{◌≡◌, ℕ, zero, suc, ◌<◌, ◌≤◌, ◌^◌, true, false, cond, eqb, List, [], ◌∷◌, ◌++◌, Option, Some, None, IsSomeAnd, codes, find, length, get_or, take, drop, leb, refl, sym, ap, subst, ◌∙◌, arith, append_assoc, append-nil}
-use Rattle.std.proofs.lemmas.Bool.{eqb-true, leb-true}
-use Rattle.std.proofs.lemmas.Fmt.{decimal_is_IsNumeral, decimal_injective}
-use Rattle.std.proofs.lemmas.List.{append_cancel_left, get_or_default}
-use Rattle.std.proofs.lemmas.List.Elements.{All-weaker}
-use Rattle.std.proofs.lemmas.List.Sums.{AllPass-from_list_all}
-use Rattle.std.proofs.lemmas.Str.Parse.{digit_at}
+use Rattle.std.proofs.Common.{◌≡◌, ℕ, zero, suc, ◌<◌, ◌≤◌, ◌^◌, true, false, cond, eqb, List, [], ◌∷◌, ◌++◌, Option, Some, None, IsSomeAnd, codes, find, length, get_or, take, drop, refl, sym, ap, subst, ◌∙◌, arith, append_assoc, append-nil}
+use Rattle.std.proofs.lemmas.Bool.{eqb-true}
+use Rattle.std.proofs.lemmas.Fmt.{decimal_injective}
+use Rattle.std.proofs.lemmas.List.{append_cancel_left}
 use Rattle.std.specs.Fmt.{decimal}
-use Rattle.std.specs.List.{All, list_all}
+use Rattle.std.specs.List.{All}
 use Rattle.std.specs.Str.{bytes_eq}
 use Rattle.pb_object.specs.declared.codes.Action.{Action}
 use Rattle.pb_object.specs.declared.codes.Answer.{Answer}
@@ -18,21 +15,25 @@ use Rattle.pb_object.specs.declared.request.Reply.{Reply}
 use Rattle.pb_object.specs.Codes.{action_of, answer_code, answer_of, answer_word, value_count}
 use Rattle.pb_object.specs.Text.{spaced, reply_text, reply_text_by}
 use Rattle.pb_object.proofs.CodeLemmas.{told_apart}
+use Rattle.pb_object.proofs.PlainWords.{decimal_word, answer_word_is}
 use Rattle.pb_report.specs.declared.outcome.Outcome.{Outcome}
 use Rattle.pb_report.specs.declared.outcome.Outcome.TheVariants.{New, Kept, Old, Gap, Changed, Doubt, Left}
-use Rattle.pb_report.specs.Laws.{LeavesZero, IsPlainReply, IsPlainOutcome, ArePlain}
-use Rattle.pb_report.specs.OutcomeText.{outcome_text, outcome_line, outcomes_text, line_of}
+use Rattle.pb_report.specs.Laws.{IsPlainReply, IsPlainOutcome, ArePlain}
+use Rattle.pb_report.specs.OutcomeText.{outcome_text, outcome_line, outcomes_text, outcome_line_at}
 use Rattle.pb_report.specs.Pieces.{joined}
+use Rattle.pb_object.specs.Request.{LeavesReplyZero}
+use Rattle.pb_report.proofs.PieceLemmas.{joined-zero}
 
--- the bytes of a word are above the space, and what comes after it begins with none of these
-abbrev pub IsWord : List ℕ → Type 0
-IsWord word = All (λ byte. 33 ≤ byte) word
-
+-- what comes after a word begins with no byte above the space
 abbrev pub Ends : List ℕ → Type 0
 Ends rest = get_or rest 0 0 ≤ 32
 
+-- the bytes of a word
+abbrev IsBytes : List ℕ → Type 0
+IsBytes word = All (λ byte. 33 ≤ byte) word
+
 -- a text has one first word
-one_word : (v w x y : List ℕ) → IsWord v → IsWord w → Ends x → Ends y → v ++ x ≡ w ++ y → (v ≡ w) × (x ≡ y)
+one_word : (v w x y : List ℕ) → IsBytes v → IsBytes w → Ends x → Ends y → v ++ x ≡ w ++ y → (v ≡ w) × (x ≡ y)
 one_word [] [] x y first second x_ends y_ends e = (refl, e)
 one_word [] (b ∷ w) x y first second x_ends y_ends e =
     let high = second 0 0 (omega arith) in
@@ -47,15 +48,9 @@ one_word (a ∷ v) (b ∷ w) x y first second x_ends y_ends e =
     let same : a ≡ b = ap (λ (text : List ℕ). get_or text 0 0) e in
     (ap (λ byte. byte ∷ v) same ∙ ap (λ (word : List ℕ). b ∷ word) rest.0, rest.1)
 
-decimal_word : (n : ℕ) → n < 2 ^ 64 → IsWord (decimal n)
-decimal_word n small = λ k d h.
-    let digit = digit_at (decimal n) k (decimal_is_IsNumeral n small).0.1 h in
-    let same : get_or (decimal n) k d ≡ get_or (decimal n) k 0 = get_or_default (decimal n) k d 0 h in
-    omega arith
-
 one_number : (m n : ℕ) (x y : List ℕ) → m < 2 ^ 64 → n < 2 ^ 64 → Ends x → Ends y → decimal m ++ x ≡ decimal n ++ y → (m ≡ n) × (x ≡ y)
 one_number m n x y m_small n_small x_ends y_ends e =
-    let both = one_word (decimal m) (decimal n) x y (decimal_word m m_small) (decimal_word n n_small) x_ends y_ends e in
+    let both = one_word (decimal m) (decimal n) x y (decimal_word m m_small).bytes (decimal_word n n_small).bytes x_ends y_ends e in
     (decimal_injective m n m_small n_small both.0, both.1)
 
 -- numbers after spaces, and what comes after them
@@ -73,7 +68,7 @@ take_none zero = refl
 take_none (suc count) = refl
 
 -- the numbers of a reply
-numbers_of : (count : ℕ) (r q : Reply) (x y : List ℕ) → LeavesZero count r → LeavesZero count q → r.value < 2 ^ 64 → q.value < 2 ^ 64 → r.extra < 2 ^ 64 → q.extra < 2 ^ 64 → Ends x → Ends y
+numbers_of : (count : ℕ) (r q : Reply) (x y : List ℕ) → LeavesReplyZero count r → LeavesReplyZero count q → r.value < 2 ^ 64 → q.value < 2 ^ 64 → r.extra < 2 ^ 64 → q.extra < 2 ^ 64 → Ends x → Ends y
     → spaced (take count (r.value ∷ r.extra ∷ [])) ++ x ≡ spaced (take count (q.value ∷ q.extra ∷ [])) ++ y → (r.value ≡ q.value) × (r.extra ≡ q.extra) × (x ≡ y)
 numbers_of zero r q x y zr zq rv qv re qe x_ends y_ends e = (zr.value (omega arith) ∙ sym (zq.value (omega arith)), zr.extra (omega arith) ∙ sym (zq.extra (omega arith)), e)
 numbers_of (suc zero) r q x y zr zq rv qv re qe x_ends y_ends e =
@@ -107,22 +102,6 @@ answer_named-word At = refl
 one_answer : (first second : Answer) → answer_word first ≡ answer_word second → first ≡ second
 one_answer = told_apart answer_word answer_named answer_named-word
 
-word_from_tests : (word : List ℕ) → list_all (leb 33) word ≡ true → IsWord word
-word_from_tests word bytes = All-weaker (λ byte. leb 33 byte ≡ true) (λ byte. 33 ≤ byte) (leb-true 33) word (AllPass-from_list_all (leb 33) word bytes)
-
-answer_is_word : (answer : Answer) → IsWord (answer_word answer)
-answer_is_word Is = word_from_tests (answer_word Is) refl
-answer_is_word Was = word_from_tests (answer_word Was) refl
-answer_is_word Stale = word_from_tests (answer_word Stale) refl
-answer_is_word NoKey = word_from_tests (answer_word NoKey) refl
-answer_is_word Worn = word_from_tests (answer_word Worn) refl
-answer_is_word Depth = word_from_tests (answer_word Depth) refl
-answer_is_word Full = word_from_tests (answer_word Full) refl
-answer_is_word Item = word_from_tests (answer_word Item) refl
-answer_is_word Empty = word_from_tests (answer_word Empty) refl
-answer_is_word Size = word_from_tests (answer_word Size) refl
-answer_is_word At = word_from_tests (answer_word At) refl
-
 -- a code is that of the answer that it stands for
 code_by : (code n : ℕ) (this answer : Answer) (rest : Option Answer) → n ≡ answer_code this → (rest ≡ Some answer → code ≡ answer_code answer)
     → cond (eqb code n) (Some this) rest ≡ Some answer → code ≡ answer_code answer
@@ -141,7 +120,7 @@ code_of code answer =
 
 -- a reply, and what comes after it
 abbrev pub LeavesZeroBy : Option Action → Option Answer → Reply → Type 0
-LeavesZeroBy action answer reply = IsSomeAnd action (λ action. IsSomeAnd answer (λ answer. LeavesZero (value_count action answer) reply))
+LeavesZeroBy action answer reply = IsSomeAnd action (λ action. IsSomeAnd answer (λ answer. LeavesReplyZero (value_count action answer) reply))
 
 one_reply_by : (action : Option Action) (first second : Option Answer) (r q : Reply) (x y : List ℕ) → LeavesZeroBy action first r → LeavesZeroBy action second q
     → r.value < 2 ^ 64 → q.value < 2 ^ 64 → r.extra < 2 ^ 64 → q.extra < 2 ^ 64 → Ends x → Ends y
@@ -152,11 +131,11 @@ one_reply_by (Some action) (Some a) None r q x y zr zq rv qv re qe x_ends y_ends
 one_reply_by (Some action) (Some a) (Some b) r q x y zr zq rv qv re qe x_ends y_ends e =
     let ms = take (value_count action a) (r.value ∷ r.extra ∷ []) in
     let ns = take (value_count action b) (q.value ∷ q.extra ∷ []) in
-    let words = one_word (answer_word a) (answer_word b) (spaced ms ++ x) (spaced ns ++ y) (answer_is_word a) (answer_is_word b) (spaced_ends ms x x_ends) (spaced_ends ns y y_ends)
+    let words = one_word (answer_word a) (answer_word b) (spaced ms ++ x) (spaced ns ++ y) (answer_word_is a).bytes (answer_word_is b).bytes (spaced_ends ms x x_ends) (spaced_ends ns y y_ends)
     (sym (append_assoc (answer_word a) (spaced ms) x) ∙ e ∙ append_assoc (answer_word b) (spaced ns) y) in
     let same : a ≡ b = one_answer a b words.0 in
     let count : value_count action b ≡ value_count action a = ap (value_count action) (sym same) in
-    let numbers = numbers_of (value_count action a) r q x y zr (subst (λ (n : ℕ). LeavesZero n q) count zq) rv qv re qe x_ends y_ends
+    let numbers = numbers_of (value_count action a) r q x y zr (subst (λ (n : ℕ). LeavesReplyZero n q) count zq) rv qv re qe x_ends y_ends
     (words.1 ∙ ap (λ (n : ℕ). spaced (take n (q.value ∷ q.extra ∷ [])) ++ y) count) in
     (a, refl, ap (λ (answer : Answer). Some answer) (sym same), numbers.0, numbers.1, numbers.2)
 
@@ -191,7 +170,15 @@ joined-first line zero = sym (append-nil (line 0))
 joined-first line (suc count) = ap (λ (text : List ℕ). text ++ line (suc count)) (joined-first line count) ∙ append_assoc (line 0) (joined (λ place. line (suc place)) count) (line (suc count))
 
 texts-first : (ask : Ask) (asks : List Ask) (o : Outcome) (outcomes : List Outcome) → outcomes_text (ask ∷ asks) (o ∷ outcomes) ≡ outcome_line ask o ++ outcomes_text asks outcomes
-texts-first ask asks o outcomes = joined-first (line_of (ask ∷ asks) (o ∷ outcomes)) (length asks)
+texts-first ask asks o outcomes = refl
+
+-- the text is that of its lines by their places
+pub text-by_places : (asks : List Ask) (outcomes : List Outcome) → length outcomes ≡ length asks → joined (outcome_line_at asks outcomes) (length asks) ≡ outcomes_text asks outcomes
+text-by_places [] [] l = joined-zero (outcome_line_at [] [])
+text-by_places [] (o ∷ outcomes) l = absurd (omega arith)
+text-by_places (ask ∷ asks) [] l = absurd (omega arith)
+text-by_places (ask ∷ asks) (o ∷ outcomes) l =
+    joined-first (outcome_line_at (ask ∷ asks) (o ∷ outcomes)) (length asks) ∙ ap (λ (text : List ℕ). outcome_line ask o ++ text) (text-by_places asks outcomes (omega arith))
 
 -- what stands before the outcome of a request
 abbrev pub before_outcome : Ask → List ℕ

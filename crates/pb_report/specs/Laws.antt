@@ -10,7 +10,8 @@ use Rattle.pb_object.specs.Standing.{Standing}
 use Rattle.pb_report.specs.declared.outcome.Outcome.{Outcome}
 use Rattle.pb_report.specs.declared.outcome.Outcome.TheVariants.{New, Kept, Doubt}
 use Rattle.pb_report.specs.OutcomeText.{outcomes_text}
-use Rattle.pb_report.specs.Outcomes.{Outcomes, lines_of}
+use Rattle.pb_report.specs.Outcomes.{Outcomes, lines_of_client}
+use Rattle.pb_object.specs.Request.{LeavesReplyZero}
 
 -- the lines of one client agree, but for what comes from a doubt on
 abbrev pub AgreeUntilDoubt : List (Ask × Outcome) → List (Ask × Outcome) → Type 0
@@ -24,7 +25,7 @@ AgreeUntilDoubt (first ∷ firsts) [] = ⊥
 abbrev pub AreOneUntilDoubt : List Ask → List Outcome → List Outcome → Type 0
 AreOneUntilDoubt asks first second =
     (s : Standing) (history : History) → length s.kept ≡ s.clients → IsLegal s history → Outcomes s history asks first → Outcomes s history asks second
-    → (client : ℕ) → AgreeUntilDoubt (lines_of client (zip asks first)) (lines_of client (zip asks second))
+    → (client : ℕ) → AgreeUntilDoubt (lines_of_client client (zip asks first)) (lines_of_client client (zip asks second))
 
 abbrev pub HasNoDoubt : List Outcome → Type 0
 HasNoDoubt outcomes = (Contains outcomes Doubt) → ⊥
@@ -35,14 +36,9 @@ AreOneWithoutDoubt asks first second =
     (s : Standing) (history : History) → length s.kept ≡ s.clients → IsLegal s history → Outcomes s history asks first → Outcomes s history asks second
     → HasNoDoubt first → HasNoDoubt second → first ≡ second
 
--- the numbers of a reply after the first so many are 0
-pub record LeavesZero (used : ℕ) (reply : Reply) : Type 0 where
-  pub value : used < 1 → reply.value ≡ 0
-  pub extra : used < 2 → reply.extra ≡ 0
-
 -- a reply of which the text tells all: it has a code, and the numbers that it doesn't use are 0
 pub record IsPlainReply (op : Op) (reply : Reply) : Type 0 where
-  pub codes : IsSomeAnd (action_of op.code) (λ action. IsSomeAnd (answer_of reply.code) (λ answer. LeavesZero (value_count action answer) reply))
+  pub codes : IsSomeAnd (action_of op.code) (λ action. IsSomeAnd (answer_of reply.code) (λ answer. LeavesReplyZero (value_count action answer) reply))
   pub value : reply.value < 2 ^ 64
   pub extra : reply.extra < 2 ^ 64
 

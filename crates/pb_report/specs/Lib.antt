@@ -1,3 +1,4 @@
+pub mod GoingOn
 pub mod Laws
 pub mod OutcomeText
 pub mod Outcomes

@@ -1,5 +1,5 @@
 -- What becomes of a script's requests: the outcome of each, by what was kept of its client and by the history of the run.
-use Rattle.std.specs.Prelude.{◌≡◌, ℕ, ◌+◌, ◌<◌, Bool, List, [], ◌∷◌, Option, Some, None, if◌then◌else◌, ◌==◌, ◌&&◌, nat_le, find, filter, length, Contains, slice_index_or}
+use Rattle.std.specs.Prelude.{◌≡◌, ℕ, ◌+◌, Bool, true, false, List, [], ◌∷◌, Option, Some, None, if◌then◌else◌, ◌==◌, ◌&&◌, nat_le, find, filter, length, Contains}
 use Rattle.std.specs.List.{zip, All}
 use Rattle.pb_object.specs.declared.request.Ask.{Ask}
 use Rattle.pb_object.specs.declared.request.Op.{Op}
@@ -32,7 +32,7 @@ abbrev pub entry_of : Ask → Reply → Entry
 entry_of ask reply = record { client = ask.client; number = ask.number; op = ask.op; reply = reply }
 
 -- the entry stands in a round of the history
-pub record IsRecorded (history : History) (entry : Entry) : Type 0 where
+pub record HasEntry (history : History) (entry : Entry) : Type 0 where
   pub round : Round
   pub told : Contains history round
   pub member : Contains round.entries entry
@@ -48,16 +48,16 @@ GoesOn Changed on left = left
 GoesOn _ on left = on
 
 -- the next request is new, with the reply of its entry in the history, which is kept then; or it is in doubt, and further lines are left
-abbrev pub IsTried : History → List KeptRequest → Ask → Outcome → (List KeptRequest → Type 0) → Type 0 → Type 0
-IsTried history kept ask (New reply) on left = IsRecorded history (entry_of ask reply) × on (keep (kept_by (entry_of ask reply)) kept)
-IsTried history kept ask Doubt on left = left
-IsTried history kept ask _ on left = ⊥
+abbrev pub IsOutcomeOfNext : History → List KeptRequest → Ask → Outcome → (List KeptRequest → Type 0) → Type 0 → Type 0
+IsOutcomeOfNext history kept ask (New reply) on left = HasEntry history (entry_of ask reply) × on (keep (kept_by (entry_of ask reply)) kept)
+IsOutcomeOfNext history kept ask Doubt on left = left
+IsOutcomeOfNext history kept ask _ on left = ⊥
 
 -- a line: its outcome is the decided one, if one is decided; else the request is tried. `on` says of the client's further lines that they
 -- go on from these kept requests, and `left` that they are left
 abbrev pub IsLine : Option Outcome → History → List KeptRequest → Ask → Outcome → (List KeptRequest → Type 0) → Type 0 → Type 0
 IsLine (Some decided) history kept ask outcome on left = (outcome ≡ decided) × GoesOn decided (on kept) left
-IsLine None history kept ask outcome on left = IsTried history kept ask outcome on left
+IsLine None history kept ask outcome on left = IsOutcomeOfNext history kept ask outcome on left
 
 -- the lines of one client, in order, where these requests of it are kept at first
 unfoldable pub AreLines : History → List KeptRequest → List (Ask × Outcome) → Type 0
@@ -66,32 +66,27 @@ AreLines history kept (line ∷ lines) =
     IsLine (decided_outcome kept line.0) history kept line.0 line.1 (λ next. AreLines history next lines) (AreLeft lines)
 
 -- the lines of one client
-abbrev pub lines_of : ℕ → List (Ask × Outcome) → List (Ask × Outcome)
-lines_of client lines = filter (λ line. line.0.client == client) lines
+abbrev pub lines_of_client : ℕ → List (Ask × Outcome) → List (Ask × Outcome)
+lines_of_client client lines = filter (λ line. line.0.client == client) lines
 
-abbrev pub IsNewOrDoubt : Outcome → Type 0
-IsNewOrDoubt (New reply) = Unit {0}
-IsNewOrDoubt Doubt = Unit {0}
-IsNewOrDoubt _ = ⊥
+-- the request was tried: a round was made of it, or was to be made when the device failed
+abbrev pub is_tried : Outcome → Bool
+is_tried (New reply) = true
+is_tried Doubt = true
+is_tried _ = false
+
+-- the request of an entry
+abbrev pub ask_of : Entry → Ask
+ask_of entry = record { client = entry.client; number = entry.number; op = entry.op }
 
 -- the entry belongs to a line that is new or in doubt
 pub record IsTriedLine (lines : List (Ask × Outcome)) (entry : Entry) : Type 0 where
-  pub ask : Ask
   pub outcome : Outcome
-  pub line : Contains lines (ask, outcome)
-  pub tried : IsNewOrDoubt outcome
-  pub client : ask.client ≡ entry.client
-  pub number : ask.number ≡ entry.number
-  pub op : ask.op ≡ entry.op
+  pub line : Contains lines (ask_of entry, outcome)
+  pub tried : is_tried outcome ≡ true
 
 -- the outcomes of a script's requests, run from the standing s with this history
 pub record Outcomes (s : Standing) (history : History) (asks : List Ask) (outcomes : List Outcome) : Type 0 where
   pub same_length : length outcomes ≡ length asks
-  pub each_client : (client : ℕ) → AreLines history (kept_list_of s client) (lines_of client (zip asks outcomes))
-  pub each_entry : (entry : Entry) → IsRecorded history entry → IsTriedLine (zip asks outcomes) entry
-
--- each new line's entry stands in a round that is sealed against a crash; which rounds are, by their places, is `IsSealed`
-abbrev pub AreNewSealed : (ℕ → Type 0) → History → List Ask → List Outcome → Type 0
-AreNewSealed IsSealed history asks outcomes =
-    (ask : Ask) (reply : Reply) → Contains (zip asks outcomes) (ask, New reply)
-    → (place : ℕ) × (place < length history) × IsSealed place × Contains (slice_index_or history place (record { side = 0; entries = [] })).entries (entry_of ask reply)
+  pub each_client : (client : ℕ) → AreLines history (kept_list_of s client) (lines_of_client client (zip asks outcomes))
+  pub each_entry : (entry : Entry) → HasEntry history entry → IsTriedLine (zip asks outcomes) entry

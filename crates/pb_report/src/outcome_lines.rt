@@ -54,11 +54,11 @@ pub struct OutcomeLines<'a> {
 }
 
 impl Lines for OutcomeLines<'_> {
-    ghost use Rattle.pb_report.specs.OutcomeText.{line_of};
+    ghost use Rattle.pb_report.specs.OutcomeText.{outcome_line_at};
 
     ghost line_count = { λ lines. length lines.asks.now };
 
-    ghost line_at = { λ lines. line_of lines.asks.now lines.outcomes.now };
+    ghost line_at = { λ lines. outcome_line_at lines.asks.now lines.outcomes.now };
 
     fn count(&self) -> usize {
         self.asks.len()

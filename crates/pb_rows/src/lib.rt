@@ -6,6 +6,8 @@ mod calls;
 #[cfg(test)]
 mod crashes;
 #[cfg(test)]
+mod each_call;
+#[cfg(test)]
 mod faults;
 #[cfg(test)]
 mod first_fault;
@@ -16,9 +18,13 @@ mod long;
 #[cfg(test)]
 mod regions;
 #[cfg(test)]
+mod replays;
+#[cfg(test)]
 mod rows;
 #[cfg(test)]
 mod run;
+#[cfg(test)]
+mod sound;
 #[cfg(test)]
 mod watched;
 #[cfg(test)]

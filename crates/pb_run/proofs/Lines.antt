@@ -10,8 +10,9 @@ use Rattle.pb_object.specs.declared.request.Kept.{Kept as KeptRequest}
 use Rattle.pb_object.specs.History.{History}
 use Rattle.pb_report.specs.declared.outcome.Outcome.{Outcome}
 use Rattle.pb_report.specs.declared.outcome.Outcome.TheVariants.{Left}
-use Rattle.pb_report.specs.Outcomes.{lines_of}
-use Rattle.pb_report.proofs.GoingOn.{Line, is_ending, has_ended, kept_next, kept_after, IsNextLine, HasEntriesOf, lines_push, lines_leave, lines_over}
+use Rattle.pb_report.specs.Outcomes.{lines_of_client}
+use Rattle.pb_report.specs.GoingOn.{is_ending, has_ended, kept_next, kept_after}
+use Rattle.pb_report.proofs.GoingOn.{Line, IsNextLine, HasEntriesOf, lines_push, lines_leave, lines_over}
 use Rattle.pb_run.specs.Answer.{ends_run}
 use Rattle.pb_run.specs.SoFar.{IsClientSoFar}
 
@@ -28,14 +29,14 @@ abbrev IsOf : ℕ → Line → Bool
 IsOf client line = eqb line.0.client client
 
 pub own_push : (lines : List Line) (ask : Ask) (o : Outcome)
-    → lines_of ask.client (lines ++ (ask, o) ∷ []) ≡ lines_of ask.client lines ++ (ask, o) ∷ []
+    → lines_of_client ask.client (lines ++ (ask, o) ∷ []) ≡ lines_of_client ask.client lines ++ (ask, o) ∷ []
 own_push lines ask o =
     let line : Line = (ask, o) in
     filter-append (IsOf ask.client) lines (line ∷ [])
     ∙ ap (λ (own : Bool). filter (IsOf ask.client) lines ++ cond own (line ∷ []) []) (eq-eqb ask.client ask.client refl)
 
 pub other_push : (lines : List Line) (ask : Ask) (o : Outcome) (client : ℕ) → client ≢ ask.client
-    → lines_of client (lines ++ (ask, o) ∷ []) ≡ lines_of client lines
+    → lines_of_client client (lines ++ (ask, o) ∷ []) ≡ lines_of_client client lines
 other_push lines ask o client other =
     let line : Line = (ask, o) in
     let apart : eqb ask.client client ≡ false = grind (arith, nat_tests) in

@@ -6,7 +6,7 @@ use Rattle.std.proofs.lemmas.List.Sums.{sum_by-append}
 use Rattle.pb_object.specs.declared.request.Ask.{Ask}
 use Rattle.pb_object.specs.History.{Entry, Round, History}
 use Rattle.pb_report.specs.declared.outcome.Outcome.{Outcome}
-use Rattle.pb_report.specs.Outcomes.{IsNewOrDoubt, IsRecorded, IsTriedLine}
+use Rattle.pb_report.specs.Outcomes.{HasEntry, IsTriedLine, ask_of, is_tried}
 use Rattle.pb_report.proofs.GoingOn.{Line, HasEntriesOf}
 use Rattle.pb_run.specs.Run.{HasOneEntry}
 
@@ -30,14 +30,14 @@ alone_is entry one entries is member =
     ]
 
 pub recorded_cases : (rounds : History) (round : Round) (one entry : Entry) → round.entries ≡ one ∷ []
-    → IsRecorded (rounds ++ round ∷ []) entry → IsRecorded rounds entry ⊎ (one ≡ entry)
+    → HasEntry (rounds ++ round ∷ []) entry → HasEntry rounds entry ⊎ (one ≡ entry)
 recorded_cases rounds round one entry alone is = elim (Contains-push_cases rounds round is.round is.told) [
   | inl before ↦ inl (record { round = is.round; told = before; member = is.member })
   | inr same ↦ inr (alone_is entry one is.round.entries (ap (λ (r : Round). r.entries) (sym same) ∙ alone) is.member)
 ]
 
 pub recorded_here : (rounds : History) (round : Round) (one : Entry) → round.entries ≡ one ∷ []
-    → IsRecorded (rounds ++ round ∷ []) one
+    → HasEntry (rounds ++ round ∷ []) one
 recorded_here rounds round one alone = record {
   round = round;
   told = Contains-push rounds round;
@@ -56,33 +56,23 @@ rounds_more rounds round = length-append rounds (round ∷ [])
 
 -- the entry is the one that a line's request has, and the line is new or in doubt
 pub record IsOwn (ask : Ask) (o : Outcome) (entry : Entry) : Type 0 where
-  pub tried : IsNewOrDoubt o
-  pub client : ask.client ≡ entry.client
-  pub number : ask.number ≡ entry.number
-  pub op : ask.op ≡ entry.op
+  pub tried : is_tried o ≡ true
+  pub is : ask_of entry ≡ ask
 
 pub own_line : (lines : List Line) (ask : Ask) (o : Outcome) (entry : Entry) → IsOwn ask o entry
     → IsTriedLine (lines ++ (ask, o) ∷ []) entry
 own_line lines ask o entry own = record {
-  ask = ask;
   outcome = o;
-  line = Contains-push lines (ask, o);
+  line = subst (λ (one : Ask). Contains (lines ++ (ask, o) ∷ []) (one, o)) (sym own.is) (Contains-push lines (ask, o));
   tried = own.tried;
-  client = own.client;
-  number = own.number;
-  op = own.op;
 }
 
 pub earlier_line : (lines : List Line) (line : Line) (entry : Entry) → IsTriedLine lines entry
     → IsTriedLine (lines ++ line ∷ []) entry
 earlier_line lines line entry is = record {
-  ask = is.ask;
   outcome = is.outcome;
-  line = Contains-append_left lines (line ∷ []) (is.ask, is.outcome) is.line;
+  line = Contains-append_left lines (line ∷ []) (ask_of entry, is.outcome) is.line;
   tried = is.tried;
-  client = is.client;
-  number = is.number;
-  op = is.op;
 }
 
 -- one more outcome that is counted or not

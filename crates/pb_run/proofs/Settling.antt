@@ -12,10 +12,10 @@ use Rattle.pb_engine.specs.Good.{settled_rounds, with_doubt}
 use Rattle.pb_engine.specs.View.{FailedRound, EngineView, IsEngine, settled_by, settled_standing}
 use Rattle.pb_engine.proofs.Coming.{after_settled}
 use Rattle.pb_report.specs.declared.outcome.Outcome.{Outcome}
-use Rattle.pb_report.specs.Outcomes.{IsRecorded, IsTriedLine, lines_of}
+use Rattle.pb_report.specs.Outcomes.{HasEntry, IsTriedLine, is_tried, lines_of_client}
 use Rattle.pb_report.proofs.GoingOn.{HasEntriesOf}
-use Rattle.pb_run.specs.Answer.{IsKeptForSure, IsSettled, IsReady}
-use Rattle.pb_run.specs.Run.{is_tried, HasOneEntry, rounds_in_doubt}
+use Rattle.pb_run.specs.Answer.{IsKeptForSure, SettlesEngine, IsSureEngine}
+use Rattle.pb_run.specs.Run.{is_doubt, HasOneEntry, rounds_in_doubt}
 use Rattle.pb_run.specs.SoFar.{IsSoFar}
 use Rattle.pb_run.proofs.Lines.{other_line}
 use Rattle.pb_run.proofs.Recorded.{more_entries, same_entries, recorded_cases, single_more, rounds_more}
@@ -27,7 +27,7 @@ record Finds (old : EngineView) (left : List Bool) (asks : List Ask) (list : Lis
   entries : HasEntriesOf more rounds
   clients : s.clients ≡ old.standing.clients
   kept : (client : ℕ) → slice_index_or left client false ≡ false → kept_list_of s client ≡ kept_list_of old.standing client
-  each_entry : (entry : Entry) → IsRecorded more entry → IsTriedLine (zip asks list) entry
+  each_entry : (entry : Entry) → HasEntry more entry → IsTriedLine (zip asks list) entry
   single : All HasOneEntry more
   few : length more ≤ count_by is_tried list
 
@@ -93,7 +93,7 @@ kept_for_sure kind start old left asks list so client goes =
     (finds kind start old left asks list so old.doubt refl).kept client goes
 
 settled_so_far : (kind : Kind) (start old new : EngineView) (left : List Bool) (asks : List Ask) (list : List Outcome)
-    → IsSoFar kind start old left asks list → IsEngine kind new → IsSettled old new
+    → IsSoFar kind start old left asks list → IsEngine kind new → SettlesEngine old new
     → IsSoFar kind start new left asks list
 settled_so_far kind start old new left asks list so sound settled =
     let found = finds kind start old left asks list so old.doubt refl in
@@ -102,13 +102,14 @@ settled_so_far kind start old new left asks list so sound settled =
     let more = settled_rounds so.rounds old.doubt in
     record {
       rounds = more;
-      come = after_settled start old new so.rounds so.come so.sound.legal settled.unsure settled.settled settled.covers;
+      come = after_settled start old new so.rounds (count_by is_doubt list) so.come so.sound.legal settled.unsure
+          settled.settled settled.covers;
       sound = sound;
       clients = ap (λ (s : Standing). s.clients) settled.settled.standing ∙ (found.clients ∙ so.clients);
       flags = so.flags;
       same_length = so.same_length;
       each_client =
-          λ client. other_line so.rounds more (kept_list_of start.standing client) (lines_of client (zip asks list))
+          λ client. other_line so.rounds more (kept_list_of start.standing client) (lines_of_client client (zip asks list))
           (kept_list_of old.standing client) (kept_list_of new.standing client) (slice_index_or left client false)
           found.entries (λ goes. ap (λ (s : Standing). kept_list_of s client) settled.settled.standing ∙ found.kept
           client goes) (so.each_client client);
@@ -123,21 +124,21 @@ settled_so_far kind start old new left asks list so sound settled =
     }
 
 pub sure_so_far : (kind : Kind) (start old new : EngineView) (left : List Bool) (asks : List Ask) (list : List Outcome)
-    → IsSoFar kind start old left asks list → IsReady kind old new → IsSoFar kind start new left asks list
+    → IsSoFar kind start old left asks list → IsSureEngine kind old new → IsSoFar kind start new left asks list
 sure_so_far kind start old new left asks list so ready = elim ready.made [
   | inl same ↦ subst (λ (engine : EngineView). IsSoFar kind start engine left asks list) (sym same.1) so
   | inr settled ↦ settled_so_far kind start old new left asks list so ready.sound settled
 ]
 
 -- the engine is sure then, and nothing is in doubt
-pub ready_is_sure : (kind : Kind) (old new : EngineView) → IsReady kind old new → new.sure ≡ true
+pub ready_is_sure : (kind : Kind) (old new : EngineView) → IsSureEngine kind old new → new.sure ≡ true
 ready_is_sure kind old new ready = elim ready.made [
   | inl same ↦ ap (λ (engine : EngineView). engine.sure) same.1 ∙ same.0
   | inr settled ↦ settled.settled.sure
 ]
 
 -- what is kept of a client that isn't in doubt is the same then
-pub ready_keeps : (kind : Kind) (old new : EngineView) (client : ℕ) → IsReady kind old new → IsKeptForSure old client
+pub ready_keeps : (kind : Kind) (old new : EngineView) (client : ℕ) → IsSureEngine kind old new → IsKeptForSure old client
     → kept_list_of new.standing client ≡ kept_list_of old.standing client
 ready_keeps kind old new client ready kept = elim ready.made [
   | inl same ↦ ap (λ (engine : EngineView). kept_list_of engine.standing client) same.1

@@ -16,10 +16,10 @@ use Rattle.pb_engine.specs.Good.{HasCome}
 use Rattle.pb_engine.specs.View.{FailedRound, EngineView, IsEngine}
 use Rattle.pb_report.specs.declared.outcome.Outcome.{Outcome}
 use Rattle.pb_report.specs.declared.outcome.Outcome.TheVariants.{New, Doubt}
-use Rattle.pb_report.specs.Outcomes.{IsRecorded, IsTriedLine, entry_of, lines_of}
+use Rattle.pb_report.specs.Outcomes.{HasEntry, IsTriedLine, entry_of, is_tried, lines_of_client}
 use Rattle.pb_report.proofs.GoingOn.{Line, HasEntriesOf}
 use Rattle.pb_run.specs.Answer.{ends_run}
-use Rattle.pb_run.specs.Run.{is_tried, HasOneEntry, rounds_in_doubt, HasFaultForEach, AreNewRecorded}
+use Rattle.pb_run.specs.Run.{is_doubt, HasOneEntry, rounds_in_doubt, HasFaultForEach, AreNewRecorded}
 use Rattle.pb_run.specs.SoFar.{IsClientSoFar, IsDoubtSoFar, IsSoFar}
 use Rattle.pb_run.proofs.Lines.{zip-push, own_push, other_push, other_line}
 use Rattle.pb_run.proofs.Recorded.{IsOwn, own_line, earlier_line}
@@ -41,7 +41,7 @@ pub record IsOwnDoubt (ask : Ask) (o : Outcome) (round : Round) : Type 0 where
 pub record IsStep (kind : Kind) (start old new : EngineView) (left : List Bool) (list : List Outcome)
     (rounds : History) (ask : Ask) (o : Outcome) : Type 0 where
   pub more : History
-  pub come : HasCome start new more
+  pub come : HasCome start new more (count_by is_doubt (list ++ o ∷ []))
   pub sound : IsEngine kind new
   pub clients : new.standing.clients ≡ old.standing.clients
   pub entries : HasEntriesOf more rounds
@@ -49,9 +49,9 @@ pub record IsStep (kind : Kind) (start old new : EngineView) (left : List Bool) 
   pub own : GoesTo rounds more ask o (slice_index_or left ask.client false) (kept_list_of old.standing ask.client)
       (kept_list_of new.standing ask.client)
   pub others : (client : ℕ) → client ≢ ask.client → kept_list_of new.standing client ≡ kept_list_of old.standing client
-  pub each_entry : (entry : Entry) → IsRecorded more entry → IsRecorded rounds entry ⊎ IsOwn ask o entry
+  pub each_entry : (entry : Entry) → HasEntry more entry → HasEntry rounds entry ⊎ IsOwn ask o entry
   pub in_doubt : (failed : FailedRound) → new.doubt ≡ Some failed → (old.doubt ≡ Some failed) ⊎ IsOwnDoubt ask o failed.round
-  pub recorded : (reply : Reply) → o ≡ New reply → IsRecorded more (entry_of ask reply)
+  pub recorded : (reply : Reply) → o ≡ New reply → HasEntry more (entry_of ask reply)
   pub single : All HasOneEntry more
   pub few : rounds_in_doubt new.doubt + length more ≤ count_by is_tried (list ++ o ∷ [])
   pub faults : HasFaultForEach start.device.faults new.device.faults (list ++ o ∷ [])
@@ -78,12 +78,12 @@ stays_left left client other flag inside stays was = elim (cases_eq other client
 ]
 
 new_recorded : (rounds more : History) (lines : List Line) (ask : Ask) (o : Outcome) → HasEntriesOf more rounds
-    → AreNewRecorded rounds lines → ((reply : Reply) → o ≡ New reply → IsRecorded more (entry_of ask reply))
+    → AreNewRecorded rounds lines → ((reply : Reply) → o ≡ New reply → HasEntry more (entry_of ask reply))
     → AreNewRecorded more (lines ++ (ask, o) ∷ [])
 new_recorded rounds more lines ask o entries before own one reply line =
     elim (Contains-push_cases lines (ask, o) (one, reply_line) line) [
       | inl earlier ↦ entries (entry_of one reply) (before one reply earlier)
-      | inr same ↦ subst (λ (a : Ask). IsRecorded more (entry_of a reply)) (ap (λ (l : Line). l.0) same)
+      | inr same ↦ subst (λ (a : Ask). HasEntry more (entry_of a reply)) (ap (λ (l : Line). l.0) same)
           (own reply (ap (λ (l : Line). l.1) same))
     ]
   where
@@ -107,7 +107,7 @@ step_so_far kind start old new left asks list ask o so inside step =
       flags = length-set left ask.client (ends_run o) ∙ so.flags;
       same_length = omega (arith, so.same_length, length-append list (o ∷ []), length-append asks (ask ∷ []));
       each_client = λ client. subst (λ (all : List Line). IsClientSoFar step.more (kept_list_of start.standing client)
-          (lines_of client all) (kept_list_of new.standing client) (slice_index_or flags client false)) (sym pushed)
+          (lines_of_client client all) (kept_list_of new.standing client) (slice_index_or flags client false)) (sym pushed)
           (each client (cases_eq client ask.client));
       each_entry =
           λ entry is. subst (λ (all : List Line). IsTriedLine all entry) (sym pushed) (elim (step.each_entry entry is) [
@@ -133,28 +133,28 @@ step_so_far kind start old new left asks list ask o so inside step =
 
     each : (client : ℕ) → (client ≡ ask.client) ⊎ (client ≢ ask.client)
         → IsClientSoFar step.more (kept_list_of start.standing client)
-        (lines_of client (zip asks list ++ (ask, o) ∷ [])) (kept_list_of new.standing client)
+        (lines_of_client client (zip asks list ++ (ask, o) ∷ [])) (kept_list_of new.standing client)
         (slice_index_or (slice_set left ask.client (ends_run o)) client false)
     each client (inl e) =
         subst (λ (c : ℕ). IsClientSoFar step.more (kept_list_of start.standing c)
-        (lines_of c (zip asks list ++ (ask, o) ∷ [])) (kept_list_of new.standing c)
+        (lines_of_client c (zip asks list ++ (ask, o) ∷ [])) (kept_list_of new.standing c)
         (slice_index_or (slice_set left ask.client (ends_run o)) c false)) (sym e)
         (subst (λ (ls : List Line). IsClientSoFar step.more (kept_list_of start.standing ask.client) ls
         (kept_list_of new.standing ask.client) (slice_index_or (slice_set left ask.client (ends_run o)) ask.client
         false)) (sym (own_push (zip asks list) ask o))
         (subst (λ (flag : Bool). IsClientSoFar step.more (kept_list_of start.standing ask.client)
-        (lines_of ask.client (zip asks list) ++ (ask, o) ∷ []) (kept_list_of new.standing ask.client) flag)
+        (lines_of_client ask.client (zip asks list) ++ (ask, o) ∷ []) (kept_list_of new.standing ask.client) flag)
         (sym (flag_of_own left ask.client (ends_run o) inside))
-        (step.own (kept_list_of start.standing ask.client) (lines_of ask.client (zip asks list))
+        (step.own (kept_list_of start.standing ask.client) (lines_of_client ask.client (zip asks list))
         (so.each_client ask.client))))
     each client (inr apart) =
         subst (λ (ls : List Line). IsClientSoFar step.more (kept_list_of start.standing client) ls
         (kept_list_of new.standing client) (slice_index_or (slice_set left ask.client (ends_run o)) client false))
         (sym (other_push (zip asks list) ask o client apart))
         (subst (λ (flag : Bool). IsClientSoFar step.more (kept_list_of start.standing client)
-        (lines_of client (zip asks list)) (kept_list_of new.standing client) flag)
+        (lines_of_client client (zip asks list)) (kept_list_of new.standing client) flag)
         (sym (flag_of_other left ask.client client (ends_run o) apart))
-        (other_line so.rounds step.more (kept_list_of start.standing client) (lines_of client (zip asks list))
+        (other_line so.rounds step.more (kept_list_of start.standing client) (lines_of_client client (zip asks list))
         (kept_list_of old.standing client) (kept_list_of new.standing client) (slice_index_or left client false)
         step.entries (λ goes. step.others client apart) (so.each_client client)))
 
@@ -172,7 +172,7 @@ step_so_far kind start old new left asks list ask o so inside step =
     doubt_own round doubt = record {
       entry = doubt.entry;
       alone = doubt.alone;
-      ended = ap (λ (c : ℕ). slice_index_or (slice_set left ask.client (ends_run o)) c false) (sym doubt.own.client) ∙
+      ended = ap (λ (c : ℕ). slice_index_or (slice_set left ask.client (ends_run o)) c false) (ap (λ (one : Ask). one.client) doubt.own.is) ∙
           (flag_of_own left ask.client (ends_run o) inside ∙ doubt.ends);
       line = own_line (zip asks list) ask o doubt.entry doubt.own;
     }

@@ -1,5 +1,6 @@
 -- What each outcome of a line comes to.
 use Rattle.std.proofs.Common.{◌≡◌, ◌⊎◌, ℕ, ◌+◌, ◌<◌, ◌≤◌, leb, eqb, cond, Bool, true, false, List, [], ◌∷◌, ◌++◌, length, Option, Some, None, refl, sym, ap, subst, ◌∙◌, inl, inr, arith}
+use Rattle.std.specs.List.{count_by}
 use Rattle.std.specs.Prelude.{slice_index_or, slice_set}
 use Rattle.std.proofs.lemmas.Bool.{false≢true, cases_eq}
 use Rattle.std.proofs.lemmas.List.Elements.{Contains-append_left, Contains-push, Contains-push_cases}
@@ -17,11 +18,12 @@ use Rattle.pb_engine.proofs.Coming.{after_round_made, after_round_failed, after_
 use Rattle.pb_engine.proofs.Served.{served_is_legal}
 use Rattle.pb_report.specs.declared.outcome.Outcome.{Outcome}
 use Rattle.pb_report.specs.declared.outcome.Outcome.TheVariants.{New, Kept, Old, Gap, Changed, Doubt, Left}
-use Rattle.pb_report.specs.Outcomes.{GoesOn, IsLine, IsRecorded, decided_outcome, entry_of, is_same_op, kept_with, outcome_by}
-use Rattle.pb_report.proofs.GoingOn.{is_ending, kept_next, IsNextLine}
+use Rattle.pb_report.specs.Outcomes.{GoesOn, IsLine, HasEntry, decided_outcome, entry_of, is_same_op, is_tried, kept_with, outcome_by}
+use Rattle.pb_report.specs.GoingOn.{is_ending, kept_next}
+use Rattle.pb_report.proofs.GoingOn.{IsNextLine}
 use Rattle.pb_script.specs.Script.{IsAskOf}
-use Rattle.pb_run.specs.Answer.{IsAnswered, IsKeptForSure, IsNext, IsReady, IsServed, IsTried, FailsToServe, StaysUnsure, ends_run}
-use Rattle.pb_run.specs.Run.{is_doubt, is_tried, HasFaultForEach, rounds_in_doubt}
+use Rattle.pb_run.specs.Answer.{DecidesOrTries, IsKeptForSure, RunsLine, IsSureEngine, ServesAsk, TriesAsk, FailsToServe, StaysUnsure, ends_run}
+use Rattle.pb_run.specs.Run.{is_doubt, HasFaultForEach, rounds_in_doubt}
 use Rattle.pb_run.specs.SoFar.{IsSoFar}
 use Rattle.pb_run.proofs.Asking.{may_be_served}
 use Rattle.pb_run.proofs.Lines.{next_line, left_line}
@@ -83,7 +85,7 @@ untried_step : (kind : Kind) (start old : EngineView) (left : List Bool) (asks :
     → IsStep kind start old old left list so.rounds ask o
 untried_step kind start old left asks list ask o so untried stays own = record {
   more = so.rounds;
-  come = so.come;
+  come = subst (HasCome start old so.rounds) (sym (uncounted is_doubt list o untried.doubt)) so.come;
   sound = so.sound;
   clients = refl;
   entries = same_entries so.rounds;
@@ -148,7 +150,7 @@ doubt_step : (kind : Kind) (start old new : EngineView) (left : List Bool) (asks
     (ask : Ask) (so : IsSoFar kind start old left asks list)
     → slice_index_or left ask.client false ≡ false
     → None ≡ decided_outcome (kept_list_of old.standing ask.client) ask → IsEngine kind new → HasCome start new
-    so.rounds → new.standing ≡ old.standing → Rose old.device.faults new.device.faults
+    so.rounds (count_by is_doubt list + 1) → new.standing ≡ old.standing → Rose old.device.faults new.device.faults
     → ((failed : FailedRound) → new.doubt ≡ Some failed → (old.doubt ≡ Some failed) ⊎ IsOwnDoubt ask Doubt failed.round)
     → rounds_in_doubt new.doubt ≤ rounds_in_doubt old.doubt + 1
     → IsStep kind start old new left list so.rounds ask Doubt
@@ -158,7 +160,7 @@ doubt_step kind start old new left asks list ask so goes none sound come standin
     (λ (decided : Option Outcome). IsLine decided so.rounds known ask Doubt (λ next. Unit {0}) (Unit {0})) none tt in
     record {
       more = so.rounds;
-      come = come;
+      come = subst (HasCome start new so.rounds) (sym (counted is_doubt list Doubt refl)) come;
       sound = sound;
       clients = ap (λ (s : Standing). s.clients) standing;
       entries = same_entries so.rounds;
@@ -187,7 +189,7 @@ unsure_step : (kind : Kind) (start old new : EngineView) (left : List Bool) (ask
 unsure_step kind start old new left asks list ask so goes none sound stays =
     let same : rounds_in_doubt new.doubt ≡ rounds_in_doubt old.doubt = ap rounds_in_doubt stays.failed.doubt in
     doubt_step kind start old new left asks list ask so goes none sound
-    (after_settling_failed start old new so.rounds stays.fault so.come stays.unsure stays.failed stays.covers)
+    (after_settling_failed start old new so.rounds (count_by is_doubt list) stays.fault so.come stays.unsure stays.failed stays.covers)
     stays.failed.standing stays.failed.device.stops.rose
     (λ failed is. inl (sym stays.failed.doubt ∙ is)) (omega (arith, same))
 
@@ -208,14 +210,14 @@ failed_step kind start old new left asks list ask so goes none sound sure fails 
     let round = asked_round old.standing (ask ∷ []) in
     let few = few_in_doubt new.doubt in
     doubt_step kind start old new left asks list ask so goes none sound
-    (after_round_failed start old new so.rounds round fails.fault so.come sure (so.sound.decided sure) fails.failed
-    fails.covers) fails.failed.standing fails.failed.device.stops.rose
+    (after_round_failed start old new so.rounds (count_by is_doubt list) round fails.fault so.come sure
+    (so.sound.decided sure) fails.failed fails.covers) fails.failed.standing fails.failed.device.stops.rose
     (λ failed is.
     let same : round ≡ failed.round = ap (round_or round) (sym fails.failed.doubt ∙ is) in
     inr (subst (IsOwnDoubt ask Doubt) same (record {
       entry = answered_by old.standing.state ask;
       alone = one_entry old.standing ask;
-      own = record { tried = tt; client = refl; number = refl; op = refl };
+      own = record { tried = refl; is = refl };
       ends = refl;
     })))
     (omega (arith, few))
@@ -230,7 +232,7 @@ served_step : (kind : Kind) (start old new : EngineView) (left : List Bool) (ask
     (ask : Ask) (reply : Reply) (so : IsSoFar kind start old left asks list)
     → slice_index_or left ask.client false ≡ false
     → None ≡ decided_outcome (kept_list_of old.standing ask.client) ask → IsEngine kind new → ask.client <
-    old.standing.clients → MayBeServed old.standing (ask ∷ []) → old.sure ≡ true → IsServed ask reply old new
+    old.standing.clients → MayBeServed old.standing (ask ∷ []) → old.sure ≡ true → ServesAsk ask reply old new
     → IsStep kind start old new left list so.rounds ask (New reply)
 served_step kind start old new left asks list ask reply so goes none sound inside may sure served =
     let round : Round = asked_round old.standing (ask ∷ []) in
@@ -241,7 +243,7 @@ served_step kind start old new left asks list ask reply so goes none sound insid
     let more : History = so.rounds ++ round ∷ [] in
     let known : List KeptRequest = kept_list_of old.standing ask.client in
     let standing : new.standing ≡ after_round old.standing round = served.made.standing in
-    let here : IsRecorded more entry = recorded_here rounds round entry alone in
+    let here : HasEntry more entry = recorded_here rounds round entry alone in
     let next : IsNextLine more known ask (New reply) = subst
     (λ (decided : Option Outcome). IsLine decided more known ask (New reply) (λ next. Unit {0}) (Unit {0})) none
     (here, tt) in
@@ -252,8 +254,9 @@ served_step kind start old new left asks list ask reply so goes none sound insid
     let settled : rounds_in_doubt new.doubt ≡ 0 = ap rounds_in_doubt served.made.doubt in
     record {
       more = more;
-      come = after_round_made start old new rounds round so.come (served_is_legal old.standing (ask ∷ []) may) sure
-          (so.sound.decided sure) served.made served.covers;
+      come = subst (HasCome start new more) (sym (uncounted is_doubt list (New reply) refl))
+          (after_round_made start old new rounds (count_by is_doubt list) round so.come
+          (served_is_legal old.standing (ask ∷ []) may) sure (so.sound.decided sure) served.made served.covers);
       sound = sound;
       clients = ap (λ (s : Standing). s.clients) standing ∙ clients_after old.standing round;
       entries = more_entries rounds round;
@@ -268,10 +271,10 @@ served_step kind start old new left asks list ask reply so goes none sound insid
       each_entry = λ one is. elim (recorded_cases rounds round entry one alone is) [
         | inl before ↦ inl before
         | inr same ↦ inr (subst (IsOwn ask (New reply)) same
-            (record { tried = tt; client = refl; number = refl; op = refl }))
+            (record { tried = refl; is = refl }))
       ];
       in_doubt = λ failed is. absurd (cc (is, served.made.doubt));
-      recorded = λ other is. subst (λ (r : Reply). IsRecorded more (entry_of ask r)) (ap (reply_or reply) is) here;
+      recorded = λ other is. subst (λ (r : Reply). HasEntry more (entry_of ask r)) (ap (reply_or reply) is) here;
       single = single_more rounds round entry alone so.single;
       few = let count = counted is_tried list (New reply) refl in omega
           (arith, so.few, count, settled, rounds_more rounds round);
@@ -287,7 +290,7 @@ served_step kind start old new left asks list ask reply so goes none sound insid
 
 ready_step : (kind : Kind) (start old sure : EngineView) (left : List Bool) (asks : List Ask) (list : List Outcome) (ask : Ask)
     → IsSoFar kind start old left asks list → slice_index_or left ask.client false ≡ false
-    → None ≡ decided_outcome (kept_list_of old.standing ask.client) ask → IsReady kind old sure → None ≡
+    → None ≡ decided_outcome (kept_list_of old.standing ask.client) ask → IsSureEngine kind old sure → None ≡
     decided_outcome (kept_list_of sure.standing ask.client) ask
 ready_step kind start old sure left asks list ask so goes none ready =
     none ∙ ap (λ (known : List KeptRequest). decided_outcome known ask)
@@ -305,11 +308,11 @@ tried_so_far : (kind : Kind) (start old new : EngineView) (left : List Bool) (as
     (ask : Ask) (o : Outcome)
     → IsSoFar kind start old left asks list → IsEngine kind new → IsAskOf kind old.standing.clients ask
     → ask.client < length left → slice_index_or left ask.client false ≡ false → None ≡ decided_outcome
-    (kept_list_of old.standing ask.client) ask → IsTried kind ask old new o
+    (kept_list_of old.standing ask.client) ask → TriesAsk kind ask old new o
     → IsSoFar kind start new (slice_set left ask.client (ends_run o)) (asks ++ ask ∷ []) (list ++ o ∷ [])
 tried_so_far kind start old new left asks list ask (New reply) so sound asked inside goes none tried =
     let sure : EngineView = tried.0 in
-    let ready : IsReady kind old sure = tried.1 in
+    let ready : IsSureEngine kind old sure = tried.1 in
     let now : IsSoFar kind start sure left asks list = sure_so_far kind start old sure left asks list so ready in
     let clients : old.standing.clients ≡ sure.standing.clients = so.clients ∙ sym now.clients in
     let ask_now : IsAskOf kind sure.standing.clients ask = subst (λ (n : ℕ). IsAskOf kind n ask) clients asked in
@@ -324,7 +327,7 @@ tried_so_far kind start old new left asks list ask Doubt so sound asked inside g
     (unsure_step kind start old new left asks list ask so goes none sound stays)
 tried_so_far kind start old new left asks list ask Doubt so sound asked inside goes none (inr tried) =
     let sure : EngineView = tried.0 in
-    let ready : IsReady kind old sure = tried.1 in
+    let ready : IsSureEngine kind old sure = tried.1 in
     let now : IsSoFar kind start sure left asks list = sure_so_far kind start old sure left asks list so ready in
     let none_now = ready_step kind start old sure left asks list ask so goes none ready in
     step_so_far kind start sure new left asks list ask Doubt now inside
@@ -349,7 +352,7 @@ answered_so_far : (kind : Kind) (start old new : EngineView) (left : List Bool) 
     (ask : Ask) (o : Outcome)
     → IsSoFar kind start old left asks list → IsEngine kind new → IsAskOf kind old.standing.clients ask
     → ask.client < length left → slice_index_or left ask.client false ≡ false → (decided : Option Outcome) → decided ≡
-    decided_outcome (kept_list_of old.standing ask.client) ask → IsAnswered decided kind ask old new o
+    decided_outcome (kept_list_of old.standing ask.client) ask → DecidesOrTries decided kind ask old new o
     → IsSoFar kind start new (slice_set left ask.client (ends_run o)) (asks ++ ask ∷ []) (list ++ o ∷ [])
 answered_so_far kind start old new left asks list ask o so sound asked inside goes None is answered =
     tried_so_far kind start old new left asks list ask o so sound asked inside goes is answered
@@ -360,7 +363,7 @@ answered_so_far kind start old new left asks list ask o so sound asked inside go
 next_so_far : (kind : Kind) (start old new : EngineView) (left : List Bool) (asks : List Ask) (list : List Outcome)
     (ask : Ask) (o : Outcome)
     → IsSoFar kind start old left asks list → IsEngine kind new → IsAskOf kind old.standing.clients ask
-    → ask.client < length left → (flag : Bool) → slice_index_or left ask.client false ≡ flag → IsNext flag kind ask old new o
+    → ask.client < length left → (flag : Bool) → slice_index_or left ask.client false ≡ flag → RunsLine flag kind ask old new o
     → IsSoFar kind start new (slice_set left ask.client (ends_run o)) (asks ++ ask ∷ []) (list ++ o ∷ [])
 next_so_far kind start old new left asks list ask o so sound asked inside true ended next =
     untried_so_far kind start old new left asks list ask o so inside next.1
@@ -373,7 +376,7 @@ next_so_far kind start old new left asks list ask o so sound asked inside false 
 pub line_so_far : (kind : Kind) (start old new : EngineView) (left : List Bool) (asks : List Ask) (list : List Outcome)
     (ask : Ask) (o : Outcome) (flag : Bool)
     → IsEngine kind new → IsAskOf kind old.standing.clients ask
-    → ask.client < length left → IsNext (slice_index_or left ask.client false) kind ask old new o → flag ≡ ends_run o
+    → ask.client < length left → RunsLine (slice_index_or left ask.client false) kind ask old new o → flag ≡ ends_run o
     → IsSoFar kind start old left asks list
     → IsSoFar kind start new (slice_set left ask.client flag) (asks ++ ask ∷ []) (list ++ o ∷ [])
 line_so_far kind start old new left asks list ask o flag sound asked inside next is so =
@@ -384,7 +387,7 @@ line_so_far kind start old new left asks list ask o flag sound asked inside next
 -- A line that isn't tried leaves the engine
 
 answered_idly : (decided : Option Outcome) (kind : Kind) (ask : Ask) (old new : EngineView) (o : Outcome)
-    → is_tried o ≡ false → IsAnswered decided kind ask old new o → new ≡ old
+    → is_tried o ≡ false → DecidesOrTries decided kind ask old new o → new ≡ old
 answered_idly (Some decided) kind ask old new o idle is = is.1
 answered_idly None kind ask old new (New reply) idle is = absurd (false≢true (sym idle))
 answered_idly None kind ask old new Doubt idle is = absurd (false≢true (sym idle))
@@ -395,7 +398,7 @@ answered_idly None kind ask old new Changed idle is = absurd is
 answered_idly None kind ask old new Left idle is = absurd is
 
 pub next_idly : (flag : Bool) (kind : Kind) (ask : Ask) (old new : EngineView) (o : Outcome)
-    → IsNext flag kind ask old new o → is_tried o ≡ false → new ≡ old
+    → RunsLine flag kind ask old new o → is_tried o ≡ false → new ≡ old
 next_idly true kind ask old new o is idle = is.1
 next_idly false kind ask old new o is idle =
     answered_idly (decided_outcome (kept_list_of old.standing ask.client) ask) kind ask old new o idle is

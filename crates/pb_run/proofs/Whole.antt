@@ -14,10 +14,10 @@ use Rattle.pb_layout.specs.declared.header.TheConstants.{MOST_CLIENTS}
 use Rattle.pb_engine.specs.View.{FailedRound, EngineView, IsEngine}
 use Rattle.pb_engine.proofs.Coming.{at_start}
 use Rattle.pb_report.specs.declared.outcome.Outcome.{Outcome}
-use Rattle.pb_report.specs.Outcomes.{AreLines, IsTriedLine, Outcomes, lines_of}
+use Rattle.pb_report.specs.Outcomes.{AreLines, IsTriedLine, Outcomes, is_tried, lines_of_client}
 use Rattle.pb_report.proofs.GoingOn.{lines_over}
 use Rattle.pb_run.specs.Answer.{IsKeptForSure}
-use Rattle.pb_run.specs.Run.{HasOneEntry, HasRunInTurn, is_tried, rounds_in_doubt}
+use Rattle.pb_run.specs.Run.{HasOneEntry, HasRunInTurn, rounds_in_doubt}
 use Rattle.pb_run.specs.SoFar.{IsSoFar}
 use Rattle.pb_run.proofs.Recorded.{counted, more_entries, recorded_cases, uncounted}
 use Rattle.pb_run.proofs.Settling.{kept_for_sure}
@@ -123,7 +123,7 @@ outcomes_in_doubt kind start now left asks list so failed is =
     let doubt = so.in_doubt failed is in
     record {
       same_length = so.same_length;
-      each_client = λ client. lines_over so.rounds (so.rounds ++ failed.round ∷ []) (lines_of client (zip asks list))
+      each_client = λ client. lines_over so.rounds (so.rounds ++ failed.round ∷ []) (lines_of_client client (zip asks list))
           (kept_list_of start.standing client) (more_entries so.rounds failed.round) (so.each_client client).are;
       each_entry = λ entry recorded. elim (recorded_cases so.rounds failed.round doubt.entry entry doubt.alone recorded) [
         | inl before ↦ so.each_entry entry before

@@ -20,14 +20,14 @@ IsKeptForSure engine client =
     kept_list_of (settled_standing engine.standing engine.doubt) client ≡ kept_list_of engine.standing client
 
 -- the engine was settled
-pub record IsSettled (old new : EngineView) : Type 0 where
+pub record SettlesEngine (old new : EngineView) : Type 0 where
   pub unsure : old.sure ≡ false
   pub settled : HasSettled old new
   pub covers : SettleCovers old new
 
 -- it is sure: as it was, or since it was settled
 abbrev pub IsMadeSure : EngineView → EngineView → Type 0
-IsMadeSure old new = ((old.sure ≡ true) × (new ≡ old)) ⊎ IsSettled old new
+IsMadeSure old new = ((old.sure ≡ true) × (new ≡ old)) ⊎ SettlesEngine old new
 
 -- it wasn't sure, and settling failed
 pub record StaysUnsure (old new : EngineView) : Type 0 where
@@ -37,7 +37,7 @@ pub record StaysUnsure (old new : EngineView) : Type 0 where
   pub covers : FailedSettleCovers old new
 
 -- a request was served in a round of its own, with this reply
-pub record IsServed (ask : Ask) (reply : Reply) (old new : EngineView) : Type 0 where
+pub record ServesAsk (ask : Ask) (reply : Reply) (old new : EngineView) : Type 0 where
   pub made : HasMade (asked_round old.standing (ask ∷ [])) old new
   pub covers : RoundCovers (asked_round old.standing (ask ∷ [])) old new
   pub replied : reply ≡ reply_of old.standing.state ask.op
@@ -49,27 +49,27 @@ pub record FailsToServe (ask : Ask) (old new : EngineView) : Type 0 where
   pub covers : FailedRoundCovers (asked_round old.standing (ask ∷ [])) old new
 
 -- an engine that is sound and sure, which it was or has become
-pub record IsReady (kind : Kind) (old sure : EngineView) : Type 0 where
+pub record IsSureEngine (kind : Kind) (old sure : EngineView) : Type 0 where
   pub made : IsMadeSure old sure
   pub sound : IsEngine kind sure
 
 -- a request was tried: once the engine is sure its round is made, or a call of the device fails meanwhile
-abbrev pub IsTried : Kind → Ask → EngineView → EngineView → Outcome → Type 0
-IsTried kind ask old new (New reply) = (sure : EngineView) × IsReady kind old sure × IsServed ask reply sure new
-IsTried kind ask old new Doubt =
-    StaysUnsure old new ⊎ ((sure : EngineView) × IsReady kind old sure × FailsToServe ask sure new)
-IsTried kind ask old new _ = ⊥
+abbrev pub TriesAsk : Kind → Ask → EngineView → EngineView → Outcome → Type 0
+TriesAsk kind ask old new (New reply) = (sure : EngineView) × IsSureEngine kind old sure × ServesAsk ask reply sure new
+TriesAsk kind ask old new Doubt =
+    StaysUnsure old new ⊎ ((sure : EngineView) × IsSureEngine kind old sure × FailsToServe ask sure new)
+TriesAsk kind ask old new _ = ⊥
 
 -- a request that its client's kept ones decide isn't tried
-abbrev pub IsAnswered : Option Outcome → Kind → Ask → EngineView → EngineView → Outcome → Type 0
-IsAnswered (Some decided) kind ask old new outcome = (outcome ≡ decided) × (new ≡ old)
-IsAnswered None kind ask old new outcome = IsTried kind ask old new outcome
+abbrev pub DecidesOrTries : Option Outcome → Kind → Ask → EngineView → EngineView → Outcome → Type 0
+DecidesOrTries (Some decided) kind ask old new outcome = (outcome ≡ decided) × (new ≡ old)
+DecidesOrTries None kind ask old new outcome = TriesAsk kind ask old new outcome
 
 -- one of a client whose lines are left isn't even judged
-abbrev pub IsNext : Bool → Kind → Ask → EngineView → EngineView → Outcome → Type 0
-IsNext true kind ask old new outcome = (outcome ≡ Left) × (new ≡ old)
-IsNext false kind ask old new outcome =
-    IsAnswered (decided_outcome (kept_list_of old.standing ask.client) ask) kind ask old new outcome
+abbrev pub RunsLine : Bool → Kind → Ask → EngineView → EngineView → Outcome → Type 0
+RunsLine true kind ask old new outcome = (outcome ≡ Left) × (new ≡ old)
+RunsLine false kind ask old new outcome =
+    DecidesOrTries (decided_outcome (kept_list_of old.standing ask.client) ask) kind ask old new outcome
 
 -- a client's further lines are left after this outcome
 abbrev pub ends_run : Outcome → Bool

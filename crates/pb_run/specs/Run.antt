@@ -9,17 +9,11 @@ use Rattle.pb_engine.specs.Good.{HasCome}
 use Rattle.pb_engine.specs.View.{FailedRound, EngineView}
 use Rattle.pb_report.specs.declared.outcome.Outcome.{Outcome}
 use Rattle.pb_report.specs.declared.outcome.Outcome.TheVariants.{New, Doubt}
-use Rattle.pb_report.specs.Outcomes.{Outcomes, IsRecorded, entry_of}
+use Rattle.pb_report.specs.Outcomes.{Outcomes, HasEntry, entry_of, is_tried}
 
 abbrev pub is_doubt : Outcome → Bool
 is_doubt Doubt = true
 is_doubt _ = false
-
--- the request was tried: a round was made of it, or was to be made when the device failed
-abbrev pub is_tried : Outcome → Bool
-is_tried (New reply) = true
-is_tried Doubt = true
-is_tried _ = false
 
 abbrev pub HasOneEntry : Round → Type 0
 HasOneEntry round = length round.entries ≡ 1
@@ -37,16 +31,16 @@ HasFaultForEach before now list = min (before + count_by is_doubt list) last_cou
 -- the entry of each new line is one of these rounds'
 abbrev pub AreNewRecorded : History → List (Ask × Outcome) → Type 0
 AreNewRecorded rounds lines =
-    (ask : Ask) (reply : Reply) → Contains lines (ask, New reply) → IsRecorded rounds (entry_of ask reply)
+    (ask : Ask) (reply : Reply) → Contains lines (ask, New reply) → HasEntry rounds (entry_of ask reply)
 
 -- A script's requests were run from the start on, with these outcomes. The engine has come to what it is now by some
--- rounds, one after the other. The outcomes are those of a run with these rounds, and, where the run ended with a
--- round in doubt, those of a run with that round too: whether it is recorded, only settling tells. The rounds are no
--- more than the lines that are new or in doubt; where there is no such line nothing was done. A line is in doubt
--- only where a call of the device failed, and where one did some line is
+-- rounds, one after the other, and a failing call for each line in doubt. The outcomes are those of a run with these
+-- rounds, and, where the run ended with a round in doubt, those of a run with that round too: whether it is recorded,
+-- only settling tells. The rounds are no more than the lines that are new or in doubt; where there is no such line
+-- nothing was done. A line is in doubt only where a call of the device failed, and where one did some line is
 pub record HasRun (start : EngineView) (asks : List Ask) (now : EngineView) (list : List Outcome) : Type 0 where
   pub rounds : History
-  pub come : HasCome start now rounds
+  pub come : HasCome start now rounds (count_by is_doubt list)
   pub outcomes : Outcomes start.standing rounds asks list
   pub in_doubt : (failed : FailedRound) → now.doubt ≡ Some failed
       → Outcomes start.standing (rounds ++ failed.round ∷ []) asks list

@@ -12,9 +12,9 @@ use Rattle.pb_engine.specs.Good.{HasCome}
 use Rattle.pb_engine.specs.View.{FailedRound, EngineView, IsEngine}
 use Rattle.pb_report.specs.declared.outcome.Outcome.{Outcome}
 use Rattle.pb_report.specs.declared.outcome.Outcome.TheVariants.{Doubt}
-use Rattle.pb_report.specs.Outcomes.{AreLines, IsRecorded, IsTriedLine, lines_of}
-use Rattle.pb_report.proofs.GoingOn.{has_ended, kept_after}
-use Rattle.pb_run.specs.Run.{is_tried, HasOneEntry, rounds_in_doubt, HasFaultForEach, AreNewRecorded}
+use Rattle.pb_report.specs.Outcomes.{AreLines, HasEntry, IsTriedLine, is_tried, lines_of_client}
+use Rattle.pb_report.specs.GoingOn.{has_ended, kept_after}
+use Rattle.pb_run.specs.Run.{is_doubt, HasOneEntry, rounds_in_doubt, HasFaultForEach, AreNewRecorded}
 
 -- of a client whose kept requests were `first`: these lines of it have their outcomes; whether its further ones are
 -- left; and else what is known to be kept of it by now
@@ -35,16 +35,16 @@ pub record IsDoubtSoFar (left : List Bool) (lines : List (Ask × Outcome)) (roun
 pub record IsSoFar (kind : Kind) (start now : EngineView) (left : List Bool) (asks : List Ask)
     (list : List Outcome) : Type 0 where
   pub rounds : History
-  pub come : HasCome start now rounds
+  pub come : HasCome start now rounds (count_by is_doubt list)
   pub sound : IsEngine kind now
   pub clients : now.standing.clients ≡ start.standing.clients
   pub flags : length left ≡ MOST_CLIENTS
   pub same_length : length list ≡ length asks
   pub each_client : (client : ℕ)
-      → IsClientSoFar rounds (kept_list_of start.standing client) (lines_of client (zip asks list))
+      → IsClientSoFar rounds (kept_list_of start.standing client) (lines_of_client client (zip asks list))
       (kept_list_of now.standing client)
       (slice_index_or left client false)
-  pub each_entry : (entry : Entry) → IsRecorded rounds entry → IsTriedLine (zip asks list) entry
+  pub each_entry : (entry : Entry) → HasEntry rounds entry → IsTriedLine (zip asks list) entry
   pub in_doubt : (failed : FailedRound) → now.doubt ≡ Some failed → IsDoubtSoFar left (zip asks list) failed.round
   pub recorded : AreNewRecorded rounds (zip asks list)
   pub single : All HasOneEntry rounds

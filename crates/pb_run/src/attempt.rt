@@ -2,7 +2,7 @@
 ghost use Rattle.std.specs.Prelude.{◌≡◌, ◌∷◌, [], true, IfOk, OnOk, OnErr};
 ghost use Rattle.pb_engine.specs.Asks.{MayBeServed};
 ghost use Rattle.pb_engine.specs.View.{IsEngine, settled_standing};
-ghost use Rattle.pb_run.specs.Answer.{IsMadeSure, StaysUnsure, IsServed, FailsToServe, IsTried};
+ghost use Rattle.pb_run.specs.Answer.{IsMadeSure, StaysUnsure, ServesAsk, FailsToServe, TriesAsk};
 
 use arrayvec::ArrayVec;
 use pb_engine::Engine;
@@ -15,7 +15,7 @@ use pb_report::Outcome;
 pub fn attempt<E: Engine>(engine: &mut E, ask: &Ask) -> Outcome
     requires sound { IsEngine E.KIND (E.seen engine.old) }
     requires asked { MayBeServed (settled_standing (E.seen engine.old).standing (E.seen engine.old).doubt) (ask.now ∷ []) }
-    ensures tried { IsTried E.KIND ask.now (E.seen engine.old) (E.seen engine.new) result }
+    ensures tried { TriesAsk E.KIND ask.now (E.seen engine.old) (E.seen engine.new) result }
     ensures sound { IsEngine E.KIND (E.seen engine.new) }
 {
     if make_sure(engine).is_err() {
@@ -48,7 +48,7 @@ fn make_round<E: Engine>(engine: &mut E, ask: &Ask) -> Result<Reply, DeviceFault
     requires sound { IsEngine E.KIND (E.seen engine.old) }
     requires sure { (E.seen engine.old).sure ≡ true }
     requires asked { MayBeServed (E.seen engine.old).standing (ask.now ∷ []) }
-    ensures ok { IfOk result (λ reply. IsServed ask.now reply (E.seen engine.old) (E.seen engine.new)) }
+    ensures ok { IfOk result (λ reply. ServesAsk ask.now reply (E.seen engine.old) (E.seen engine.new)) }
     ensures err { OnErr result (FailsToServe ask.now (E.seen engine.old) (E.seen engine.new)) }
     ensures sound { IsEngine E.KIND (E.seen engine.new) }
 {

@@ -4,8 +4,9 @@ ghost use Rattle.pb_object.specs.declared.request.Ask.{Ask};
 ghost use Rattle.pb_engine.specs.View.{EngineView, IsEngine};
 ghost use Rattle.pb_report.specs.declared.outcome.Outcome.{Outcome};
 ghost use Rattle.pb_script.specs.Script.{IsAskOf};
-ghost use Rattle.pb_run.specs.Answer.{IsKeptForSure, IsNext, ends_run};
-ghost use Rattle.pb_run.specs.Run.{HasRunInTurn, is_tried};
+ghost use Rattle.pb_run.specs.Answer.{IsKeptForSure, RunsLine, ends_run};
+ghost use Rattle.pb_report.specs.Outcomes.{is_tried};
+ghost use Rattle.pb_run.specs.Run.{HasRunInTurn};
 ghost use Rattle.pb_run.specs.SoFar.{IsSoFar};
 
 use crate::attempt::attempt;
@@ -69,7 +70,7 @@ fn next_outcome<E: Engine, G: Gate>(engine: &mut E, ask: &Ask, left: bool, gate:
     requires sound { IsEngine E.KIND (E.seen engine.old) }
     requires asked { IsAskOf E.KIND (E.seen engine.old).standing.clients ask.now }
     requires kept { left ≡ false → IsKeptForSure (E.seen engine.old) ask.now.client }
-    ensures next { IsNext left E.KIND ask.now (E.seen engine.old) (E.seen engine.new) result }
+    ensures next { RunsLine left E.KIND ask.now (E.seen engine.old) (E.seen engine.new) result }
     ensures sound { IsEngine E.KIND (E.seen engine.new) }
 {
     if left {

@@ -14,9 +14,11 @@ use Rattle.pb_object.specs.declared.codes.Action.TheVariants.{Get, Put, Cas, Pus
 use Rattle.pb_object.specs.declared.request.Op.{Op}
 use Rattle.pb_object.specs.declared.request.Ask.{Ask}
 use Rattle.pb_object.specs.declared.request.TheConstants.{LAST_NUMBER}
-use Rattle.pb_object.specs.Codes.{action_code, action_of, action_named, action_word, actions_of, argument_count}
+use Rattle.pb_object.specs.Codes.{action_named, action_word, actions_of, argument_count}
 use Rattle.pb_object.specs.Number.{number_of}
 use Rattle.pb_object.specs.Text.{op_text, op_text_by, spaced}
+use Rattle.pb_object.proofs.CodeLemmas.{action_of-code}
+use Rattle.pb_object.proofs.PlainWords.{decimal_word, action_word_is}
 use Rattle.pb_object.proofs.Numbers.{number_of-decimal, number_of_small}
 use Rattle.pb_script.specs.Print.{request_text, script_text}
 use Rattle.pb_script.specs.Request.{arguments_of, each, number_within, op_of, op_with, request_of}
@@ -24,7 +26,7 @@ use Rattle.pb_script.specs.Script.{IsScript, request_lines}
 use Rattle.pb_script.specs.Words.{fields, is_request, lines, words}
 use Rattle.pb_script.proofs.Arguments.{each_none, each_first_some}
 use Rattle.pb_script.proofs.Cuts.{lines_none}
-use Rattle.pb_script.proofs.Plain.{AllSmall, IsText, decimal_word, action_word_is, words_spaced, words_numbers, word_text, space_text, append_text, spaced_text, lines_first, no_return, script_text_first, script_text_none}
+use Rattle.pb_script.proofs.Plain.{AllSmall, IsText, words_spaced, words_numbers, word_text, space_text, append_text, spaced_text, lines_first, no_return, script_text_first, script_text_none}
 
 -- an operation of a kind, by its action and its arguments
 pub record PlainOp (kind : Kind) (op : Op) : Type 0 where
@@ -123,20 +125,6 @@ ask_parts kind clients (client ∷ number ∷ operation) ask e =
       op = op_parts kind operation op op_read;
     }))))
 
-pub action_of_code : (action : Action) → action_of (action_code action) ≡ Some action
-unfolding action_of
-action_of_code Get = refl
-action_of_code Put = refl
-action_of_code Cas = refl
-action_of_code Push = refl
-action_of_code Pop = refl
-action_of_code Top = refl
-action_of_code Insert = refl
-action_of_code RemoveMin = refl
-action_of_code Min = refl
-action_of_code QueuePut = refl
-action_of_code QueueTake = refl
-
 three_at_most : (action : Action) → argument_count action ≤ 3
 three_at_most Get = lit≤ tt
 three_at_most Put = lit≤ tt
@@ -160,7 +148,7 @@ taken_back n (a ∷ b ∷ c ∷ d ∷ more) e few = absurd (omega arith)
 op_text_plain : (kind : Kind) (op : Op) (p : PlainOp kind op) → op_text op ≡ action_word p.action ++ spaced p.arguments
 op_text_plain kind op p =
     ap op_text p.made
-    ∙ ap (λ action. op_text_by action (op_with p.action p.arguments)) (action_of_code p.action)
+    ∙ ap (λ action. op_text_by action (op_with p.action p.arguments)) (action_of-code p.action)
     ∙ ap (λ ns. action_word p.action ++ spaced ns) (taken_back (argument_count p.action) p.arguments p.many (three_at_most p.action))
 
 op_again : (kind : Kind) (op : Op) (p : PlainOp kind op) → op_of kind (action_word p.action ∷ map decimal p.arguments) ≡ Some op

@@ -21,7 +21,8 @@ use Rattle.pb_object.specs.Request.{IsOperation, LeavesUnusedZero}
 use Rattle.pb_script.specs.declared.script.ScriptFault.{ScriptFault}
 use Rattle.pb_script.specs.Request.{each, number_within, op_with, request_of}
 use Rattle.pb_script.specs.Script.{IsAskOf, IsReadAs, IsScript, request_lines}
-use Rattle.pb_script.proofs.Again.{PlainAsk, PlainOp, ask_parts, action_of_code}
+use Rattle.pb_object.proofs.CodeLemmas.{action_of-code}
+use Rattle.pb_script.proofs.Again.{PlainAsk, PlainOp, ask_parts}
 
 find_keeps : {A : Type 0} (P : A → Type 0) (p : A → Bool) (xs : List A) (x : A) → AllByRecursion P xs → find p xs ≡ Some x → P x
 find_keeps P p [] x all e = absurd (none-some x e)
@@ -62,7 +63,7 @@ is_operation_plain : (kind : Kind) (op : Op) → PlainOp kind op → IsOperation
 is_operation_plain kind op p =
     let P : Op → Type 0 = λ op. IsOperation kind op in
     let Q : Option Action → Type 0 = λ o. IsSomeAnd o (λ action. (action_kind action ≡ kind) × LeavesUnusedZero (argument_count action) (op_with p.action p.arguments)) in
-    subst P (sym p.made) (subst Q (sym (action_of_code p.action)) (named_kind kind (action_word p.action) p.action p.named, unused_zero p.action p.arguments p.many))
+    subst P (sym p.made) (subst Q (sym (action_of-code p.action)) (named_kind kind (action_word p.action) p.action p.named, unused_zero p.action p.arguments p.many))
 
 is_ask_plain : (kind : Kind) (clients : ℕ) (ask : Ask) → PlainAsk kind clients ask → IsAskOf kind clients ask
 is_ask_plain kind clients ask p =

@@ -1,21 +1,17 @@
 -- What is printed in the plain form is read as the same requests.
-use Rattle.std.proofs.Common.{◌≡◌, ℕ, ◌+◌, ◌-◌, ◌<◌, ◌≤◌, ◌^◌, true, false, ltb, eqb, List, [], ◌∷◌, ◌++◌, length, get_or, take, drop, map, filter, refl, sym, ap, ◌∙◌, arith, lit≤, leb}
-use Rattle.std.proofs.lemmas.Bool.{cond-true, cond-false, ne_eqb, lt-ltb, ltb-true, leb-true}
+use Rattle.std.proofs.Common.{◌≡◌, ℕ, ◌+◌, ◌-◌, ◌<◌, ◌≤◌, ◌^◌, false, ltb, eqb, List, [], ◌∷◌, ◌++◌, length, get_or, take, drop, map, filter, refl, sym, ap, ◌∙◌, arith, lit≤}
+use Rattle.std.proofs.lemmas.Bool.{cond-true, cond-false, ne_eqb, lt-ltb}
 use Rattle.std.proofs.lemmas.Bool.Decides.{nat_tests}
-use Rattle.std.proofs.lemmas.Fmt.{decimal_is_IsNumeral}
-use Rattle.std.proofs.lemmas.List.{append-nil, append_assoc, take_at, drop_at, get_or_append_left, get_or_at, get_or_default, length-append, flat_map_more}
+use Rattle.std.proofs.lemmas.List.{append-nil, append_assoc, take_at, drop_at, get_or_append_left, get_or_at, length-append, flat_map_more}
 use Rattle.std.proofs.lemmas.List.Elements.{All-append, All-cons, All-weaker}
 use Rattle.std.proofs.lemmas.List.Splits.{slice_split_at, slice_split_none}
-use Rattle.std.proofs.lemmas.List.Sums.{position_or_len_is, AllPass-from_list_all}
-use Rattle.std.proofs.lemmas.Str.Parse.{digit_at}
+use Rattle.std.proofs.lemmas.List.Sums.{position_or_len_is}
 use Rattle.std.specs.Fmt.{decimal}
-use Rattle.std.specs.List.{All, AllByRecursion, flat_map, list_all, position_or_len}
+use Rattle.std.specs.List.{All, AllByRecursion, flat_map, position_or_len}
 use Rattle.std.specs.Str.Lines.{strip_carriage_return}
-use Rattle.pb_object.specs.declared.codes.Action.{Action}
-use Rattle.pb_object.specs.declared.codes.Action.TheVariants.{Get, Put, Cas, Push, Pop, Top, Insert, RemoveMin, Min, QueuePut, QueueTake}
 use Rattle.pb_object.specs.declared.request.Ask.{Ask}
-use Rattle.pb_object.specs.Codes.{action_word}
 use Rattle.pb_object.specs.Text.{spaced}
+use Rattle.pb_object.proofs.PlainWords.{IsWord, decimal_word}
 use Rattle.pb_script.specs.Print.{request_text, line_text, script_text}
 use Rattle.pb_script.specs.Words.{is_blank, is_line_end, lines, words}
 use Rattle.pb_script.proofs.Cuts.{lines_more}
@@ -35,32 +31,6 @@ script_text_first ask asks = append_assoc (request_text ask) (10 ∷ []) (flat_m
 pub spaced_push : (ns : List ℕ) (n : ℕ) → spaced (ns ++ n ∷ []) ≡ spaced ns ++ (32 ∷ decimal n)
 spaced_push [] n = ap (λ t. 32 ∷ t) (append-nil (decimal n))
 spaced_push (m ∷ ns) n = ap (λ t. 32 ∷ t) (ap (λ t. decimal m ++ t) (spaced_push ns n) ∙ sym (append_assoc (decimal m) (spaced ns) (32 ∷ decimal n)))
-
--- a word of the plain form: its bytes are above the space
-pub record IsWord (word : List ℕ) : Type 0 where
-  pub some : 0 < length word
-  pub bytes : All (λ byte. 33 ≤ byte) word
-
-pub decimal_word : (n : ℕ) → n < 2 ^ 64 → IsWord (decimal n)
-decimal_word n small =
-    let numeral = (decimal_is_IsNumeral n small).0 in
-    record { some = numeral.0; bytes = λ k d h. let digit = digit_at (decimal n) k numeral.1 h in let same = get_or_default (decimal n) k d 0 h in omega arith }
-
-word_from_tests : (word : List ℕ) → ltb 0 (length word) ≡ true → list_all (leb 33) word ≡ true → IsWord word
-word_from_tests word some bytes = record { some = ltb-true 0 (length word) some; bytes = All-weaker (λ byte. leb 33 byte ≡ true) (λ byte. 33 ≤ byte) (leb-true 33) word (AllPass-from_list_all (leb 33) word bytes) }
-
-pub action_word_is : (action : Action) → IsWord (action_word action)
-action_word_is Get = word_from_tests _ refl refl
-action_word_is Put = word_from_tests _ refl refl
-action_word_is Cas = word_from_tests _ refl refl
-action_word_is Push = word_from_tests _ refl refl
-action_word_is Pop = word_from_tests _ refl refl
-action_word_is Top = word_from_tests _ refl refl
-action_word_is Insert = word_from_tests _ refl refl
-action_word_is RemoveMin = word_from_tests _ refl refl
-action_word_is Min = word_from_tests _ refl refl
-action_word_is QueuePut = word_from_tests _ refl refl
-action_word_is QueueTake = word_from_tests _ refl refl
 
 no_blank : (byte : ℕ) → 33 ≤ byte → is_blank byte ≡ false
 no_blank byte h = grind (arith, nat_tests)

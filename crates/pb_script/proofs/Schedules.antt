@@ -19,22 +19,22 @@ use Rattle.pb_script.specs.Script.{request_lines}
 use Rattle.pb_script.specs.Words.{lines, fields, is_request}
 use Rattle.pb_script.proofs.Arguments.{each_none, each_push, each_front}
 use Rattle.pb_script.proofs.Cuts.{lines_none}
-use Rattle.pb_script.proofs.Steps.{request_lines_none, request_lines_append, request_lines_no, request_lines_yes}
+use Rattle.pb_script.proofs.Steps.{request_lines_none, request_lines_append, request_lines_no, request_lines_yes, length_request_lines_yes, none_if}
 
 -- One more line
 
 -- a line that names nothing changes nothing
-schedule_skip : (kind : Kind) (clients : ℕ) (read : List (List ℕ)) (line : List ℕ) (events : List Repeat) → is_request (fields line) ≡ false → IsSchedule kind clients read events → IsSchedule kind clients (read ++ line ∷ []) events
+pub schedule_skip : (kind : Kind) (clients : ℕ) (read : List (List ℕ)) (line : List ℕ) (events : List Repeat) → is_request (fields line) ≡ false → IsSchedule kind clients read events → IsSchedule kind clients (read ++ line ∷ []) events
 schedule_skip kind clients read line events e h =
     record { reads = ap (each (event_of kind clients)) (request_lines_no read line e) ∙ h.reads }
 
 -- one more line's events
-schedule_push : (kind : Kind) (clients : ℕ) (read : List (List ℕ)) (line : List ℕ) (events : List Repeat) (more : Repeat) → is_request (fields line) ≡ true → event_of kind clients (fields line) ≡ Some more → IsSchedule kind clients read events → IsSchedule kind clients (read ++ line ∷ []) (events ++ more ∷ [])
+pub schedule_push : (kind : Kind) (clients : ℕ) (read : List (List ℕ)) (line : List ℕ) (events : List Repeat) (more : Repeat) → is_request (fields line) ≡ true → event_of kind clients (fields line) ≡ Some more → IsSchedule kind clients read events → IsSchedule kind clients (read ++ line ∷ []) (events ++ more ∷ [])
 schedule_push kind clients read line events more e reads h =
     record { reads = rw (request_lines_yes read line e, each_push (event_of kind clients) (request_lines read) (fields line), h.reads, reads) refl }
 
 -- a line that reads as no event ends what is a schedule
-schedule_none : (kind : Kind) (clients : ℕ) (read : List (List ℕ)) (line : List ℕ) (events : List Repeat) → is_request (fields line) ≡ true → event_of kind clients (fields line) ≡ None → IsSchedule kind clients read events → (all : List Repeat) → IsSchedule kind clients (read ++ line ∷ []) all → ⊥
+pub schedule_none : (kind : Kind) (clients : ℕ) (read : List (List ℕ)) (line : List ℕ) (events : List Repeat) → is_request (fields line) ≡ true → event_of kind clients (fields line) ≡ None → IsSchedule kind clients read events → (all : List Repeat) → IsSchedule kind clients (read ++ line ∷ []) all → ⊥
 schedule_none kind clients read line events e refuses h all schedule =
     none-some all (rw (request_lines_yes read line e, each_push (event_of kind clients) (request_lines read) (fields line), h.reads, refuses) at schedule.reads)
 
@@ -56,9 +56,6 @@ refused_now kind clients read line events h none = record {
   before = (events, rw (take_at read (line ∷ []) (length read + 1 - 1) (omega arith)) h);
   none = λ all schedule. none all (rw (take_all (length read + 1) (read ++ line ∷ []) (omega (arith, length_push read line))) at schedule);
 }
-
-length_yes : (read : List (List ℕ)) (line : List ℕ) → is_request (fields line) ≡ true → length (request_lines (read ++ line ∷ [])) ≡ length (request_lines read) + 1
-length_yes read line e = ap length (request_lines_yes read line e) ∙ length_push (request_lines read) (fields line)
 
 -- what is held, by whether a line was refused
 abbrev Says : Kind → ℕ → List (List ℕ) → List Repeat → Option ℕ → Type 0
@@ -86,7 +83,7 @@ after_by kind clients read line events (Some number) e h =
 pub lists_after : (kind : Kind) (clients : ℕ) (read : List (List ℕ)) (line : List ℕ) (listing : Listing) → is_request (fields line) ≡ true → listing.count < MOST_EVENTS → is_some listing.refused ≡ true → Lists kind clients read listing → Lists kind clients (read ++ line ∷ []) (record listing { lines = listing.lines + 1; count = listing.count + 1 })
 lists_after kind clients read line listing e room refused h = record {
   lines = ap (λ (n : ℕ). n + 1) h.lines ∙ sym (length_push read line);
-  count = ap (λ (n : ℕ). n + 1) h.count ∙ sym (length_yes read line e);
+  count = ap (λ (n : ℕ). n + 1) h.count ∙ sym (length_request_lines_yes read line e);
   few = omega arith;
   schedule = after_by kind clients read line listing.events.items listing.refused refused h.schedule;
 }
@@ -95,10 +92,6 @@ unrefused : (kind : Kind) (clients : ℕ) (read : List (List ℕ)) (events : Lis
 unrefused kind clients read events None e h = h
 unrefused kind clients read events (Some number) e h = absurd (false≢true (sym e))
 
-none_if : (refused : Option ℕ) → is_some refused ≡ false → refused ≡ None
-none_if None e = refl
-none_if (Some number) e = absurd (false≢true (sym e))
-
 -- the first refused line
 pub lists_refused : (kind : Kind) (clients : ℕ) (read : List (List ℕ)) (line : List ℕ) (listing : Listing) → is_request (fields line) ≡ true → listing.count < MOST_EVENTS → is_some listing.refused ≡ false → event_of kind clients (fields line) ≡ None → Lists kind clients read listing → Lists kind clients (read ++ line ∷ []) (record listing { lines = listing.lines + 1; count = listing.count + 1; refused = Some (listing.lines + 1) })
 lists_refused kind clients read line listing e room refused refuses h =
@@ -106,7 +99,7 @@ lists_refused kind clients read line listing e room refused refuses h =
     let long : listing.lines + 1 ≡ length (read ++ line ∷ []) = ap (λ (n : ℕ). n + 1) h.lines ∙ sym (length_push read line) in
     record {
       lines = long;
-      count = ap (λ (n : ℕ). n + 1) h.count ∙ sym (length_yes read line e);
+      count = ap (λ (n : ℕ). n + 1) h.count ∙ sym (length_request_lines_yes read line e);
       few = omega arith;
       schedule = (omega (arith, long), rw h.lines (refused_now kind clients read line listing.events.items schedule (schedule_none kind clients read line listing.events.items e refuses schedule)));
     }
@@ -119,7 +112,7 @@ lists_push kind clients read line listing new more e room refused reads events l
     let schedule = unrefused kind clients read listing.events.items listing.refused refused h.schedule in
     record {
       lines = lines ∙ (ap (λ (n : ℕ). n + 1) h.lines ∙ sym (length_push read line));
-      count = count ∙ (ap (λ (n : ℕ). n + 1) h.count ∙ sym (length_yes read line e));
+      count = count ∙ (ap (λ (n : ℕ). n + 1) h.count ∙ sym (length_request_lines_yes read line e));
       few = omega arith;
       schedule = rw (same ∙ none_if listing.refused refused, events) (schedule_push kind clients read line listing.events.items more e reads schedule);
     }
@@ -127,7 +120,7 @@ lists_push kind clients read line listing new more e room refused reads events l
 -- one event line too many
 pub too_many_events : (kind : Kind) (clients : ℕ) (read : List (List ℕ)) (line : List ℕ) (listing : Listing) → is_request (fields line) ≡ true → MOST_EVENTS ≤ listing.count → Lists kind clients read listing → MOST_EVENTS < length (request_lines (read ++ line ∷ []))
 too_many_events kind clients read line listing e full h =
-    omega (arith, full, h.count, length_yes read line e)
+    omega (arith, full, h.count, length_request_lines_yes read line e)
 
 -- A whole source
 

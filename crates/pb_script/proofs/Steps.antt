@@ -137,7 +137,7 @@ Follows-from_last last asks ask within h next = let P : Option ℕ → Type 0 = 
 pub FollowsLast-from_asks : (last : List ℕ) (asks : List Ask) (ask : Ask) → ask.client < 16 → HoldsLast last asks → Follows asks ask → FollowsLast last ask
 FollowsLast-from_asks last asks ask within h next = let P : Option ℕ → Type 0 = λ o. IfSome o (λ number. ask.number ≡ number + 1) in subst P (h ask.client within) next
 
-length_request_lines_yes : (read : List (List ℕ)) (line : List ℕ) → is_request (fields line) ≡ true → length (request_lines (read ++ line ∷ [])) ≡ length (request_lines read) + 1
+pub length_request_lines_yes : (read : List (List ℕ)) (line : List ℕ) → is_request (fields line) ≡ true → length (request_lines (read ++ line ∷ [])) ≡ length (request_lines read) + 1
 length_request_lines_yes read line e = ap length (request_lines_yes read line e) ∙ length_push (request_lines read) (fields line)
 
 skip_by : (kind : Kind) (clients : ℕ) (read : List (List ℕ)) (line : List ℕ) (asks : List Ask) (last : List ℕ) (refused : Option ℕ) → is_request (fields line) ≡ false
@@ -196,7 +196,7 @@ Holds_refused kind clients read line reading e room refused refuses h =
       script = (omega arith, rw h.lines (IsRefused_now kind clients read line reading.asks.items script.0 none));
     }
 
-none_if : (o : Option ℕ) → is_some o ≡ false → o ≡ None
+pub none_if : (o : Option ℕ) → is_some o ≡ false → o ≡ None
 none_if None e = refl
 none_if (Some n) e = absurd (false≢true (sym e))
 

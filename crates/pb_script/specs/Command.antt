@@ -1,5 +1,5 @@
 -- The forms of a command line.
-use Rattle.std.specs.Prelude.{ℕ, ◌*◌, ◌+◌, ◌≤◌, List, [], ◌∷◌, Option, Some, None, String, codes, map, nat_le, if◌then◌else◌}
+use Rattle.std.specs.Prelude.{ℕ, ◌*◌, ◌+◌, ◌≤◌, List, [], ◌∷◌, Option, Some, None, String, codes, map, nat_le, if◌then◌else◌, option_map}
 use Rattle.std.specs.String.{string_bytes}
 use Rattle.std.specs.Str.{bytes_eq}
 use Rattle.pb_object.specs.declared.kind.Kind.{Kind}
@@ -11,40 +11,22 @@ use Rattle.pb_script.specs.declared.command.TheConstants.{MOST_CLIENTS, MOST_SIZ
 use Rattle.pb_script.specs.declared.script.TheConstants.{MOST_REQUESTS}
 use Rattle.pb_script.specs.Request.{◌>>=◌, number_within}
 
--- a new object's kind, clients and size
-unfoldable pub object_with : List ℕ → List ℕ → List ℕ → Option (Kind × ℕ × ℕ)
-object_with kind clients size = do
+-- `KIND CLIENTS SIZE`: a new object's kind, clients and size
+unfoldable pub object_of : List (List ℕ) → Option (Kind × ℕ × ℕ)
+object_of (kind ∷ clients ∷ size ∷ []) = do
   k ← kind_named kind
   c ← number_within 1 (MOST_CLIENTS + 1) clients
   s ← number_within 1 (MOST_SIZE + 1) size
   Some (k, c, s)
-
--- `KIND CLIENTS SIZE`
-unfoldable pub object_of : List (List ℕ) → Option (Kind × ℕ × ℕ)
-object_of (kind ∷ clients ∷ size ∷ []) = object_with kind clients size
 object_of _ = None
 
-unfoldable pub fresh_of : List (List ℕ) → Option Command
-fresh_of words = do
-  object ← object_of words
-  Some (Fresh object.0 object.1 object.2)
-
-unfoldable pub replay_of : List (List ℕ) → Option Command
-replay_of words = do
-  object ← object_of words
-  Some (Replay object.0 object.1 object.2)
-
--- a drill's seed, clients and count, with no more requests than a script may have
-unfoldable pub drill_with : List ℕ → List ℕ → List ℕ → Option Command
-drill_with seed clients count = do
+-- `SEED CLIENTS COUNT`: a drill of no more requests than a script may have
+unfoldable pub drill_of : List (List ℕ) → Option Command
+drill_of (seed ∷ clients ∷ count ∷ []) = do
   s ← number_of seed
   c ← number_within 1 (MOST_CLIENTS + 1) clients
   n ← number_within 1 (MOST_REQUESTS + 1) count
   if nat_le (c * n) MOST_REQUESTS then Some (Drill s c n) else None
-
--- `SEED CLIENTS COUNT`
-unfoldable pub drill_of : List (List ℕ) → Option Command
-drill_of (seed ∷ clients ∷ count ∷ []) = drill_with seed clients count
 drill_of _ = None
 
 -- a command that has no arguments
@@ -56,10 +38,10 @@ alone command _ = None
 unfoldable pub command_of : List (List ℕ) → Option Command
 command_of [] = None
 command_of (word ∷ arguments) =
-    if bytes_eq word (codes "fresh") then fresh_of arguments else
+    if bytes_eq word (codes "fresh") then option_map (λ object. Fresh object.0 object.1 object.2) (object_of arguments) else
     (if bytes_eq word (codes "run") then alone Run arguments else
     (if bytes_eq word (codes "report") then alone Report arguments else
-    (if bytes_eq word (codes "replay") then replay_of arguments else
+    (if bytes_eq word (codes "replay") then option_map (λ object. Replay object.0 object.1 object.2) (object_of arguments) else
     (if bytes_eq word (codes "drill") then drill_of arguments else None))))
 
 -- the bytes of each word

@@ -8,10 +8,13 @@ use Rattle.pb_object.specs.declared.request.Ask.{Ask}
 use Rattle.pb_object.specs.Number.{number_of}
 use Rattle.pb_core.specs.declared.event.Event.{Event}
 use Rattle.pb_core.specs.declared.event.Event.TheVariants.{Ask as AskEvent, Step, Fail, Crash, Reopen, ReopenFail}
+use Rattle.pb_script.specs.declared.event.EventLine.{EventLine}
+use Rattle.pb_script.specs.declared.event.EventLine.TheVariants.{Nothing, Refused, Events}
 use Rattle.pb_script.specs.declared.event.Repeat.{Repeat}
 use Rattle.pb_script.specs.declared.event.TheConstants.{MOST_TIMES}
 use Rattle.pb_script.specs.Readers.{first_number}
 use Rattle.pb_script.specs.Request.{◌>>=◌, number_within, op_of}
+use Rattle.pb_script.specs.Words.{is_request}
 
 -- the number that the first of some words writes, whichever it is, and the words after it
 unfoldable pub any_number : List (List ℕ) → Option (ℕ × List (List ℕ))
@@ -117,3 +120,11 @@ event_with kind clients word others =
 unfoldable pub event_of : Kind → ℕ → List (List ℕ) → Option Repeat
 event_of kind clients [] = None
 event_of kind clients (word ∷ others) = event_with kind clients word others
+
+-- what a line with these fields says
+abbrev pub event_line_by : Option Repeat → EventLine
+event_line_by None = Refused
+event_line_by (Some repeat) = Events repeat
+
+abbrev pub event_line : Kind → ℕ → List (List ℕ) → EventLine
+event_line kind clients fields = if is_request fields then event_line_by (event_of kind clients fields) else Nothing

@@ -46,10 +46,9 @@ op_of kind (word ∷ numbers) = do
 
 -- a request: a client below so many, its number, and an operation of the kind
 unfoldable pub request_of : Kind → ℕ → List (List ℕ) → Option Ask
-request_of kind clients [] = None
-request_of kind clients (client ∷ []) = None
 request_of kind clients (client ∷ number ∷ operation) = do
   c ← number_within 0 clients client
   n ← number_within 1 (LAST_NUMBER + 1) number
   op ← op_of kind operation
   Some (record { client = c; number = n; op = op })
+request_of kind clients _ = None

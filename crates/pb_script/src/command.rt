@@ -1,6 +1,7 @@
 //! The command line.
-ghost use Rattle.std.specs.Prelude.{◌≡◌, ◌+◌, ◌≤◌, IfSome};
-ghost use Rattle.pb_script.specs.Command.{IsWithinLimits, IsObjectWithin, command_of, fresh_of, replay_of, object_of, object_with, drill_of, drill_with, alone, texts};
+ghost use Rattle.std.specs.Prelude.{◌≡◌, ◌+◌, ◌≤◌, [], ◌∷◌, option_map, IfSome};
+ghost use Rattle.pb_script.specs.Command.{IsWithinLimits, IsObjectWithin, command_of, object_of, drill_of, alone, texts};
+ghost use Rattle.pb_script.specs.declared.command.Command.TheVariants.{Fresh, Replay};
 ghost use Rattle.pb_script.specs.Request.{number_within};
 
 use crate::request::number_within;
@@ -56,9 +57,8 @@ fn alone(command: Command, words: &[String]) -> Option<Command>
     }
 }
 
-#[tactic(auto, unfolding(crate::specs::Command::fresh_of))]
 fn parse_fresh(words: &[String]) -> Option<Command>
-    ensures command { result ≡ fresh_of (texts words.now) }
+    ensures command { result ≡ option_map (λ object. Fresh object.0 object.1 object.2) (object_of (texts words.now)) }
     ensures within { IfSome result IsWithinLimits }
 {
     let (kind, clients, size) = parse_object(words)?;
@@ -69,9 +69,8 @@ fn parse_fresh(words: &[String]) -> Option<Command>
     })
 }
 
-#[tactic(auto, unfolding(crate::specs::Command::replay_of))]
 fn parse_replay(words: &[String]) -> Option<Command>
-    ensures command { result ≡ replay_of (texts words.now) }
+    ensures command { result ≡ option_map (λ object. Replay object.0 object.1 object.2) (object_of (texts words.now)) }
     ensures within { IfSome result IsWithinLimits }
 {
     let (kind, clients, size) = parse_object(words)?;
@@ -96,9 +95,9 @@ fn parse_object(words: &[String]) -> Option<(Kind, u32, u32)>
 }
 
 /// A new object's kind, clients and size.
-#[tactic(auto, unfolding(crate::specs::Command::object_with))]
+#[tactic(auto, unfolding(crate::specs::Command::object_of))]
 fn object_with(kind: &[u8], clients: &[u8], size: &[u8]) -> Option<(Kind, u32, u32)>
-    ensures object { result ≡ object_with kind.now clients.now size.now }
+    ensures object { result ≡ object_of (kind.now ∷ clients.now ∷ size.now ∷ []) }
     ensures within { IfSome result (λ object. IsObjectWithin object.1 object.2) }
 {
     let kind = Kind::from_word(kind)?;
@@ -121,9 +120,9 @@ fn parse_drill(words: &[String]) -> Option<Command>
 }
 
 /// A drill's seed, clients and count, with no more requests than a script may have.
-#[tactic(auto, unfolding(crate::specs::Command::drill_with))]
+#[tactic(auto, unfolding(crate::specs::Command::drill_of))]
 fn drill_with(seed: &[u8], clients: &[u8], count: &[u8]) -> Option<Command>
-    ensures command { result ≡ drill_with seed.now clients.now count.now }
+    ensures command { result ≡ drill_of (seed.now ∷ clients.now ∷ count.now ∷ []) }
     ensures within { IfSome result IsWithinLimits }
 {
     let seed = parse_number(seed)?;

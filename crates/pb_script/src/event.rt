@@ -1,11 +1,12 @@
 //! How the fields of a line name events.
 ghost use Rattle.std.specs.Prelude.{◌≡◌, ◌<◌, ◌≤◌, IfSome};
 ghost use Rattle.std.specs.Option.{option_map};
-ghost use Rattle.pb_script.specs.Events.{any_number, if_last, times_of, torn_of, how_of, asked_of, ask_of, step_of, fail_of, crash_of, open_of, openfail_of, region_event_with, event_of, repeated};
-ghost use Rattle.pb_script.specs.Words.{words};
+ghost use Rattle.pb_script.specs.Events.{any_number, if_last, times_of, torn_of, how_of, asked_of, ask_of, step_of, fail_of, crash_of, open_of, openfail_of, region_event_with, event_of, repeated, event_line};
+ghost use Rattle.pb_script.specs.Words.{words, fields};
 
 use crate::request::{next_number, number_within, read_op};
-use crate::words::cut_word;
+use crate::script::is_request;
+use crate::words::{cut_word, without_return};
 use pb_core::Event;
 use pb_image::How;
 use pb_object::{Ask, Kind, parse_number};
@@ -27,6 +28,31 @@ impl Repeat {
         ensures { result ≡ repeated event times }
     {
         Repeat { event, times }
+    }
+}
+
+/// What a line of a schedule says.
+#[derive(Clone, Copy, Debug, PartialEq, Eq)]
+pub enum EventLine {
+    /// Nothing: it is blank, or a comment.
+    Nothing,
+    /// No event that there is.
+    Refused,
+    /// These events.
+    Events(Repeat),
+}
+
+/// Reads a line of a schedule for an object of this kind with so many clients.
+pub fn read_event_line(line: &[u8], kind: Kind, clients: u32) -> EventLine
+    ensures { result ≡ event_line kind clients (fields line.now) }
+{
+    let text = without_return(line);
+    if !is_request(text) {
+        return EventLine::Nothing;
+    }
+    match read_event(text, kind, clients) {
+        Some(events) => EventLine::Events(events),
+        None => EventLine::Refused,
     }
 }
 

@@ -5,8 +5,9 @@ const COMMANDS: &str = "pbcomb: the commands are\n\
     \x20 pbcomb DEVICE fresh KIND CLIENTS SIZE   make a region, and run the script on standard input\n\
     \x20 pbcomb DEVICE run                       run the script on the region that is there\n\
     \x20 pbcomb DEVICE report                    print what the region holds\n\
-    KIND is map, stack, heap or queue, CLIENTS is 1 to 16, SIZE is 1 to 1024, and DEVICE is - for a trial\n\
-    device that is gone at the end.";
+    \x20 pbcomb DEVICE replay KIND CLIENTS SIZE  play the schedule on standard input through the protocol\n\
+    KIND is map, stack, heap or queue, CLIENTS is 1 to 16, and SIZE is 1 to 1024. DEVICE is the path of a file,\n\
+    which is made where it is absent, or - for a trial device that is gone at the end.";
 
 /// What a status means and what may be done, in a few lines. Nothing behind `Done`.
 pub fn advice(status: Status) -> &'static str {
@@ -17,7 +18,8 @@ pub fn advice(status: Status) -> &'static str {
         Status::Usage => COMMANDS,
         Status::Refused => {
             "pbcomb: nothing was done. `line N`: line N of the script is no request of this kind, or its number isn't the next \
-            one\nof its client. `many`: the script has more than 32768 requests. `long`: it has more than 4194304 bytes."
+            one\nof its client; or line N of the schedule is no event, or one that can't happen then. `many`: the script has more\n\
+            than 32768 request lines, or the schedule more than 4096 event lines. `long`: it has more than 4194304 bytes."
         }
         Status::ReadFault =>
             "pbcomb: standard input couldn't be read. Nothing was done: run it again.",
@@ -27,7 +29,8 @@ pub fn advice(status: Status) -> &'static str {
         }
         Status::DeviceFault => {
             "pbcomb: a call of the device failed. `doubt`: the request may be applied or not. Run the same script again, and\n\
-            each request is answered, and none is applied twice."
+            each request is answered, and none is applied twice. `device fault` at once: the file can't be opened, read, made\n\
+            or synced, or hasn't 131072 bytes."
         }
         Status::Unusable => {
             "pbcomb: nothing was done. `none`: the device has no region; `fresh` makes one. `taken`: it has one; `run` goes on\n\

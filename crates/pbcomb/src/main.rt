@@ -5,8 +5,10 @@ mod advice;
 
 use crate::advice::advice;
 use pb_broker::{Status, top};
+use pb_file::FileDev;
 use pb_image::Image;
 use pb_io::{OpenGate, StdSink, StdSource};
+use pb_pmem::Pmem;
 use std::alloc::AllocError;
 use std::process::ExitCode;
 use std::rt::Env;
@@ -26,13 +28,24 @@ fn main(rt: HostRuntime) -> ExitCode {
     ExitCode::from(status.code())
 }
 
-fn run<R: Env + Input + Print + AllocGlobal>(rt: &R) -> Result<Status, AllocError> {
+/// Runs the words behind the device over the device that the first word names: the trial device, or the file at that path.
+fn run(rt: &HostRuntime) -> Result<Status, AllocError> {
     let words = words(rt)?;
-    let command = match words.split_first() {
-        Some((device, command)) if device.as_str() == TRIAL => command,
-        _ => &[],
-    };
-    let device = Image::zero(rt.alloc(), TRIAL_ROOM)?;
+    match words.split_first() {
+        Some((device, command)) if device.as_str() == TRIAL => {
+            run_over(rt, command, Image::zero(rt.alloc(), TRIAL_ROOM)?)
+        }
+        Some((path, command)) => run_over(rt, command, FileDev::new(rt, path.as_str())?),
+        None => run_over(rt, &[], FileDev::new(rt, "")?),
+    }
+}
+
+/// Runs the words over a device, from standard input to standard output.
+fn run_over<R: Input + Print + AllocGlobal, P: Pmem + Send>(
+    rt: &R,
+    command: &[String],
+    device: P,
+) -> Result<Status, AllocError> {
     let mut source = StdSource::new(rt.reader());
     let mut sink = StdSink::new(io::writer(rt));
     let done = top(

@@ -3,10 +3,9 @@ use Rattle.std.proofs.KnownBytes.{Keeps-refl}
 use Rattle.pb_script.specs.declared.command.Command.{Command}
 use Rattle.pb_script.specs.declared.command.Command.TheVariants.{Fresh, Run, Replay, Drill}
 use Rattle.pb_script.specs.Command.{command_of, texts}
-use Rattle.pb_broker.specs.Call.{output}
-use Rattle.pb_broker.specs.Reading.{reading}
-use Rattle.pb_broker.proofs.Answered.{call_of, served_or_stopped, no_command}
+use Rattle.pb_broker.proofs.Answered.{call_of, served_or_stopped, no_command, replayed}
 use Rattle.pb_broker.proofs.program.top.Goals as goal
+use Rattle.pb_broker.specs.Stream.{stream}
 
 pub returns-in-Some-Fresh : goal.returns-in-Some-Fresh
 returns-in-Some-Fresh g c =
@@ -14,9 +13,9 @@ returns-in-Some-Fresh g c =
     let command : Command = Fresh c.in-Some-Fresh.kind c.in-Some-Fresh.clients c.in-Some-Fresh.size in
     let is : command_of words ≡ Some command = search rules in
     served_or_stopped words (Some command)
-    (reading (g.S.Source.rest c.args.source.now) (g.S.Source.rest c.fresh.new.source) (g.S.Source.fault_count c.args.source.now) (g.S.Source.fault_count c.fresh.new.source))
+    (stream (g.S.Source.rest c.args.source.now) (g.S.Source.rest c.fresh.new.source) (g.S.Source.fault_count c.args.source.now) (g.S.Source.fault_count c.fresh.new.source))
     (g.P.Pmem.seen c.args.device) (g.P.Pmem.seen c.fresh.result.device) (g.P.Pmem.seen c.finish.result.device)
-    (output (g.K.Sink.bytes c.args.sink.now) (g.K.Sink.bytes c.finish.new.sink) (g.K.Sink.fault_count c.args.sink.now) (g.K.Sink.fault_count c.finish.new.sink))
+    (stream (g.K.Sink.bytes c.args.sink.now) (g.K.Sink.bytes c.finish.new.sink) (g.K.Sink.fault_count c.args.sink.now) (g.K.Sink.fault_count c.finish.new.sink))
     c.finish.result.status c.fresh.result.served is c.finish.ensures.device c.fresh.ensures c.finish.ensures.said
 
 pub returns-in-Some-Run : goal.returns-in-Some-Run
@@ -24,22 +23,21 @@ returns-in-Some-Run g c =
     let words = texts c.args.words.now in
     let is : command_of words ≡ Some Run = search rules in
     served_or_stopped words (Some Run)
-    (reading (g.S.Source.rest c.args.source.now) (g.S.Source.rest c.run.new.source) (g.S.Source.fault_count c.args.source.now) (g.S.Source.fault_count c.run.new.source))
+    (stream (g.S.Source.rest c.args.source.now) (g.S.Source.rest c.run.new.source) (g.S.Source.fault_count c.args.source.now) (g.S.Source.fault_count c.run.new.source))
     (g.P.Pmem.seen c.args.device) (g.P.Pmem.seen c.run.result.device) (g.P.Pmem.seen c.finish-in-Some-Run.result.device)
-    (output (g.K.Sink.bytes c.args.sink.now) (g.K.Sink.bytes c.finish-in-Some-Run.new.sink) (g.K.Sink.fault_count c.args.sink.now) (g.K.Sink.fault_count c.finish-in-Some-Run.new.sink))
+    (stream (g.K.Sink.bytes c.args.sink.now) (g.K.Sink.bytes c.finish-in-Some-Run.new.sink) (g.K.Sink.fault_count c.args.sink.now) (g.K.Sink.fault_count c.finish-in-Some-Run.new.sink))
     c.finish-in-Some-Run.result.status c.run.result.served is c.finish-in-Some-Run.ensures.device c.run.ensures c.finish-in-Some-Run.ensures.said
 
 pub returns-in-Some-Replay : goal.returns-in-Some-Replay
 returns-in-Some-Replay g c =
     let words = texts c.args.words.now in
-    let command : Command = Replay c.in-Some-Replay.field-0-0 c.in-Some-Replay.field-0-1 c.in-Some-Replay.field-0-2 in
+    let command : Command = Replay c.in-Some-Replay.kind c.in-Some-Replay.clients c.in-Some-Replay.size in
     let is : command_of words ≡ Some command = search rules in
-    no_command words (Some command)
-    (call_of (reading (g.S.Source.rest c.args.source.now) (g.S.Source.rest c.args.source.now) (g.S.Source.fault_count c.args.source.now) (g.S.Source.fault_count c.args.source.now)) (g.P.Pmem.seen c.args.device) (g.P.Pmem.seen c.no_command.result.device))
-    (output (g.K.Sink.bytes c.args.sink.now) (g.K.Sink.bytes c.no_command.new.sink) (g.K.Sink.fault_count c.args.sink.now) (g.K.Sink.fault_count c.no_command.new.sink))
-    c.no_command.result.status is (λ usage. usage)
-    (record { same = Keeps-refl (g.S.Source.rest c.args.source.now); reads = refl }, c.no_command.ensures.device)
-    c.no_command.ensures.said
+    replayed words c.in-Some-Replay.kind c.in-Some-Replay.clients c.in-Some-Replay.size
+    (stream (g.S.Source.rest c.args.source.now) (g.S.Source.rest c.replay.new.source) (g.S.Source.fault_count c.args.source.now) (g.S.Source.fault_count c.replay.new.source))
+    (g.P.Pmem.seen c.args.device) (g.P.Pmem.seen c.args.device)
+    (stream (g.K.Sink.bytes c.args.sink.now) (g.K.Sink.bytes c.replay.new.sink) (g.K.Sink.fault_count c.args.sink.now) (g.K.Sink.fault_count c.replay.new.sink))
+    c.replay.result is refl c.replay.ensures
 
 pub returns-in-Some-Drill : goal.returns-in-Some-Drill
 returns-in-Some-Drill g c =
@@ -47,19 +45,19 @@ returns-in-Some-Drill g c =
     let command : Command = Drill c.in-Some-Drill.field-0-0 c.in-Some-Drill.field-0-1 c.in-Some-Drill.field-0-2 in
     let is : command_of words ≡ Some command = search rules in
     no_command words (Some command)
-    (call_of (reading (g.S.Source.rest c.args.source.now) (g.S.Source.rest c.args.source.now) (g.S.Source.fault_count c.args.source.now) (g.S.Source.fault_count c.args.source.now)) (g.P.Pmem.seen c.args.device) (g.P.Pmem.seen c.no_command-in-Some-Drill.result.device))
-    (output (g.K.Sink.bytes c.args.sink.now) (g.K.Sink.bytes c.no_command-in-Some-Drill.new.sink) (g.K.Sink.fault_count c.args.sink.now) (g.K.Sink.fault_count c.no_command-in-Some-Drill.new.sink))
-    c.no_command-in-Some-Drill.result.status is (λ usage. usage)
-    (record { same = Keeps-refl (g.S.Source.rest c.args.source.now); reads = refl }, c.no_command-in-Some-Drill.ensures.device)
-    c.no_command-in-Some-Drill.ensures.said
+    (call_of (stream (g.S.Source.rest c.args.source.now) (g.S.Source.rest c.args.source.now) (g.S.Source.fault_count c.args.source.now) (g.S.Source.fault_count c.args.source.now)) (g.P.Pmem.seen c.args.device) (g.P.Pmem.seen c.no_command.result.device))
+    (stream (g.K.Sink.bytes c.args.sink.now) (g.K.Sink.bytes c.no_command.new.sink) (g.K.Sink.fault_count c.args.sink.now) (g.K.Sink.fault_count c.no_command.new.sink))
+    c.no_command.result.status is (λ usage. (refl, usage.0, usage.1))
+    (record { same = Keeps-refl (g.S.Source.rest c.args.source.now); reads = refl }, c.no_command.ensures.device)
+    c.no_command.ensures.said
 
 pub returns-in-None : goal.returns-in-None
 returns-in-None g c =
     let words = texts c.args.words.now in
     let is : command_of words ≡ None = search rules in
     no_command words None
-    (call_of (reading (g.S.Source.rest c.args.source.now) (g.S.Source.rest c.args.source.now) (g.S.Source.fault_count c.args.source.now) (g.S.Source.fault_count c.args.source.now)) (g.P.Pmem.seen c.args.device) (g.P.Pmem.seen c.no_command-in-None.result.device))
-    (output (g.K.Sink.bytes c.args.sink.now) (g.K.Sink.bytes c.no_command-in-None.new.sink) (g.K.Sink.fault_count c.args.sink.now) (g.K.Sink.fault_count c.no_command-in-None.new.sink))
-    c.no_command-in-None.result.status is (λ usage. usage)
+    (call_of (stream (g.S.Source.rest c.args.source.now) (g.S.Source.rest c.args.source.now) (g.S.Source.fault_count c.args.source.now) (g.S.Source.fault_count c.args.source.now)) (g.P.Pmem.seen c.args.device) (g.P.Pmem.seen c.no_command-in-None.result.device))
+    (stream (g.K.Sink.bytes c.args.sink.now) (g.K.Sink.bytes c.no_command-in-None.new.sink) (g.K.Sink.fault_count c.args.sink.now) (g.K.Sink.fault_count c.no_command-in-None.new.sink))
+    c.no_command-in-None.result.status is (λ usage. (refl, usage.0, usage.1))
     (record { same = Keeps-refl (g.S.Source.rest c.args.source.now); reads = refl }, c.no_command-in-None.ensures.device)
     c.no_command-in-None.ensures.said

@@ -1,7 +1,7 @@
 use Rattle.std.proofs.Common.{◌++◌}
 use Rattle.pb_layout.specs.Region.{record_place}
 use Rattle.pb_pmem.specs.Operations.{writes_from, Does}
-use Rattle.pb_pair.specs.Format.{front_ops, write_backs}
+use Rattle.pb_layout.specs.RegionOps.{front_ops, write_backs}
 use Rattle.pb_pmem.proofs.OperationSteps.{ok_then, err_then, stops_early, stops_late, on_err}
 use Rattle.pb_pair.proofs.format.prepare.Goals as goal
 

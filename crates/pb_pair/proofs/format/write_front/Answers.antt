@@ -4,7 +4,7 @@ use Rattle.pb_pmem.specs.declared.log.LogOp.{LogOp}
 use Rattle.pb_pmem.specs.declared.log.LogOp.TheVariants.{Whole, Word}
 use Rattle.pb_pmem.specs.Lines.{zero_line}
 use Rattle.pb_pmem.specs.Operations.{IsFailedPrefix, Does, Stops}
-use Rattle.pb_pair.specs.Format.{front_ops}
+use Rattle.pb_layout.specs.RegionOps.{front_ops}
 use Rattle.pb_pair.proofs.format.write_front.Goals as goal
 
 -- the operations by the header's line

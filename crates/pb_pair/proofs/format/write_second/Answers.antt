@@ -1,7 +1,8 @@
 use Rattle.std.proofs.Common.{◌≢◌, rules}
 use Rattle.pb_object.specs.declared.kind.Kind.TheVariants.{Queue}
 use Rattle.pb_layout.specs.Region.{record_place}
-use Rattle.pb_pair.proofs.Formatting.{one_side, no_writes}
+use Rattle.pb_object.proofs.Sides.{one_side}
+use Rattle.pb_pair.proofs.Formatting.{no_writes}
 use Rattle.pb_pair.proofs.format.write_second.Goals as goal
 
 pub returns-else-eq-clause-ok : goal.returns-else-eq-clause-ok

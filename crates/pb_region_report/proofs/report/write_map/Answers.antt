@@ -14,7 +14,7 @@ returns-clause-ok g c =
     let s = c.args.comb.now.standing in
     let map = c.object-map.result.now in
     let same : region_text s ++ section_of c.count_line-count.result.bytes (λ key. register_line key (register_at map key)) (length map) ≡ report_text s =
-    report_is s (codes "registers ") c.count_line-count.result.bytes (λ key. register_line key (register_at map key)) (length map) _ (count_by is_written map) (sym (ap state_text c.object-map.ensures)) c.count_line-count.ensures c.written_count.ensures in
+    report_is s (codes "registers") c.count_line-count.result.bytes (λ key. register_line key (register_at map key)) (length map) _ (count_by is_written map) (sym (ap state_text c.object-map.ensures)) c.count_line-count.ensures c.written_count.ensures in
     on_ok_weaker c.write_region.result (subst (Appends (known c.args.sink.now) (known c.write_region.new.sink)) same) c.write_region.ensures.ok
 
 pub returns-clause-err : goal.returns-clause-err
@@ -23,5 +23,5 @@ returns-clause-err g c =
     let s = c.args.comb.now.standing in
     let map = c.object-map.result.now in
     let same : region_text s ++ section_of c.count_line-count.result.bytes (λ key. register_line key (register_at map key)) (length map) ≡ report_text s =
-    report_is s (codes "registers ") c.count_line-count.result.bytes (λ key. register_line key (register_at map key)) (length map) _ (count_by is_written map) (sym (ap state_text c.object-map.ensures)) c.count_line-count.ensures c.written_count.ensures in
+    report_is s (codes "registers") c.count_line-count.result.bytes (λ key. register_line key (register_at map key)) (length map) _ (count_by is_written map) (sym (ap state_text c.object-map.ensures)) c.count_line-count.ensures c.written_count.ensures in
     on_err_weaker c.write_region.result (subst (AppendsSome (known c.args.sink.now) (known c.write_region.new.sink)) same) c.write_region.ensures.err

@@ -1,10 +1,10 @@
-use Rattle.std.proofs.Common.{◌≡◌, ◌+◌, ◌++◌, codes, slice_index, length, ap, subst, rules}
+use Rattle.std.proofs.Common.{◌≡◌, ◌+◌, [], ◌∷◌, ◌++◌, codes, slice_index, length, ap, subst, rules}
 use Rattle.std.proofs.lemmas.Result.{on_ok_weaker, on_err_weaker}
 use Rattle.std.specs.Io.KnownBytes.{Appends}
 use Rattle.pb_queue.specs.Waits.{waiting_of}
 use Rattle.pb_io.specs.SinkBytes.{AppendsSome}
-use Rattle.pb_report.specs.Pieces.{section_of}
-use Rattle.pb_region_report.specs.ReportText.{region_text, report_text, state_text, waiting_line}
+use Rattle.pb_report.specs.Pieces.{section_of, numbered}
+use Rattle.pb_region_report.specs.ReportText.{region_text, report_text, state_text}
 use Rattle.pb_region_report.proofs.ReportLemmas.{report_is}
 use Rattle.pb_region_report.proofs.QueueLemmas.{waits_in}
 use Rattle.pb_region_report.proofs.report.write_queue.Goals as goal
@@ -14,8 +14,8 @@ returns-clause-ok g c =
     let known = g.K.Sink.bytes in
     let s = c.args.queue.now.standing in
     let waiting = waiting_of s.state in
-    let same : region_text s ++ section_of c.count_line-count.result.bytes (λ place. waiting_line (slice_index waiting.items place) (waiting.taken + place)) (length waiting.items) ≡ report_text s =
-    report_is s (codes "items ") c.count_line-count.result.bytes (λ place. waiting_line (slice_index waiting.items place) (waiting.taken + place)) (length waiting.items) _ (length waiting.items) (ap state_text (waits_in s.state c.queue_head-text.ensures.sound.state_kind)) c.count_line-count.ensures (search rules) in
+    let same : region_text s ++ section_of c.count_line-count.result.bytes (λ place. numbered (codes "item") (slice_index waiting.items place ∷ (waiting.taken + place) ∷ [])) (length waiting.items) ≡ report_text s =
+    report_is s (codes "items") c.count_line-count.result.bytes (λ place. numbered (codes "item") (slice_index waiting.items place ∷ (waiting.taken + place) ∷ [])) (length waiting.items) _ (length waiting.items) (ap state_text (waits_in s.state c.queue_head-text.ensures.sound.state_kind)) c.count_line-count.ensures (search rules) in
     on_ok_weaker c.write_region.result (subst (Appends (known c.args.sink.now) (known c.write_region.new.sink)) same) c.write_region.ensures.ok
 
 pub returns-clause-err : goal.returns-clause-err
@@ -23,6 +23,6 @@ returns-clause-err g c =
     let known = g.K.Sink.bytes in
     let s = c.args.queue.now.standing in
     let waiting = waiting_of s.state in
-    let same : region_text s ++ section_of c.count_line-count.result.bytes (λ place. waiting_line (slice_index waiting.items place) (waiting.taken + place)) (length waiting.items) ≡ report_text s =
-    report_is s (codes "items ") c.count_line-count.result.bytes (λ place. waiting_line (slice_index waiting.items place) (waiting.taken + place)) (length waiting.items) _ (length waiting.items) (ap state_text (waits_in s.state c.queue_head-text.ensures.sound.state_kind)) c.count_line-count.ensures (search rules) in
+    let same : region_text s ++ section_of c.count_line-count.result.bytes (λ place. numbered (codes "item") (slice_index waiting.items place ∷ (waiting.taken + place) ∷ [])) (length waiting.items) ≡ report_text s =
+    report_is s (codes "items") c.count_line-count.result.bytes (λ place. numbered (codes "item") (slice_index waiting.items place ∷ (waiting.taken + place) ∷ [])) (length waiting.items) _ (length waiting.items) (ap state_text (waits_in s.state c.queue_head-text.ensures.sound.state_kind)) c.count_line-count.ensures (search rules) in
     on_err_weaker c.write_region.result (subst (AppendsSome (known c.args.sink.now) (known c.write_region.new.sink)) same) c.write_region.ensures.err

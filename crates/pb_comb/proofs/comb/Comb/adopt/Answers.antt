@@ -1,9 +1,10 @@
 -- The object is what the lines say.
-use Rattle.std.proofs.Common.{◌≢◌, List, sym, subst, ◌∙◌}
+use Rattle.std.proofs.Common.{◌≢◌, List, ap, sym, subst, ◌∙◌}
 use Rattle.pb_object.specs.declared.kind.Kind.TheVariants.{Queue}
 use Rattle.pb_object.specs.declared.request.Ask.{Ask}
 use Rattle.pb_pair.specs.View.{PairView}
 use Rattle.pb_engine.specs.Opening.{IsAdopted}
+use Rattle.pb_engine.specs.Pairs.{is_sure}
 use Rattle.pb_comb.specs.View.{comb_view, IsComb}
 use Rattle.pb_comb.proofs.Opening.{TakesLines, taken_length, taken_records, refused_within, resting, adopted_is, refused_told, next_length}
 use Rattle.pb_comb.proofs.comb.Comb.adopt.Goals as goal
@@ -23,7 +24,7 @@ invariant_of-result g c =
     let state = g.O.Object.state c.take_lines.new.self in
     let records = taken_records g.O.Object.KIND pair fresh state c.header-head.result c.lines_of.result.now c.object_lines.result.now takes (g.met.O.Object.is_of_kind c.take_lines.new.self) c.in-Ok-take_lines.ensures.size c.in-Ok-take_lines.ensures.taken in
     subst (IsComb g.O.Object.KIND pair state (g.O.Object.state c.copy_from.new.self) c.in-Ok.memory.next) (sym c.new.ensures)
-    (resting g.O.Object.KIND pair state (g.O.Object.state c.copy_from.new.self) c.in-Ok.memory.next c.requires.opened.sound c.requires.kind g.met.O.Object.is_no_queue records c.copy_from.ensures (next_length pair c.header-head.result c.in-Ok.memory.next c.header-head.ensures.head c.in-Ok.ensures.next) c.requires.opened.doubt)
+    (resting g.O.Object.KIND pair state (g.O.Object.state c.copy_from.new.self) c.in-Ok.memory.next c.requires.opened.sound c.requires.kind g.met.O.Object.is_no_queue records c.copy_from.ensures (next_length pair c.header-head.result c.in-Ok.memory.next c.header-head.ensures.head c.in-Ok.ensures.next) (λ sure. absurd (cc (ap is_sure c.requires.opened.known, sure))) c.requires.opened.doubt)
 
 pub object_line_at-line-requires-clause-place : goal.object_line_at-line-requires-clause-place
 object_line_at-line-requires-clause-place g c =

@@ -7,6 +7,7 @@ use Rattle.pb_layout.specs.declared.header.Header.{Header}
 use Rattle.pb_layout.specs.Shape.{IsHeader}
 use Rattle.pb_pair.specs.Format.{IsFormatted, AreFirst, IsFormatRefusal}
 use Rattle.pb_pair.specs.Safe.{FormatCovers, FailedFormatCovers}
+use Rattle.pb_pair.specs.View.{SideView}
 use Rattle.pb_engine.specs.Opening.{IsFresh, IsFreshRefusal}
 use Rattle.pb_comb.specs.View.{comb_view, IsComb}
 use Rattle.pb_comb.proofs.Opening.{AreFirstLines, first_lines, are_first, fresh_records, fresh_is, fresh_refusal, no_memory, resting, long_first}
@@ -38,7 +39,7 @@ invariant_of-result g c =
     let formatted : IsFormatted head lines [] (g.P.Pmem.seen c.args.device) c.in-Ok-format.pair = subst (λ (ls : List Line). IsFormatted head ls [] (g.P.Pmem.seen c.args.device) c.in-Ok-format.pair) c.lines.ensures c.in-Ok-format.ensures.ok in
     subst (IsComb g.O.Object.KIND c.in-Ok-format.pair state (g.O.Object.state c.in-Ok.memory.ahead) lines) (sym c.new.ensures)
     (resting g.O.Object.KIND c.in-Ok-format.pair state (g.O.Object.state c.in-Ok.memory.ahead) lines formatted.sound (ap (λ (h : Header). h.kind) formatted.head ∙ c.KIND.ensures) g.met.O.Object.is_no_queue (fresh_records head c.in-Ok-format.pair state zeros lines (g.P.Pmem.seen c.args.device) is formatted) (c.in-Ok.ensures.ahead ∙ sym c.in-Ok.ensures.object)
-    (long_first head state zeros lines c.in-Ok-format.pair (g.P.Pmem.seen c.args.device) is formatted) formatted.doubt)
+    (long_first head state zeros lines c.in-Ok-format.pair (g.P.Pmem.seen c.args.device) is formatted) (λ sure. sym (ap (λ (part : SideView). part.lines) formatted.first_side)) formatted.doubt)
 
 pub returns-in-Ok-format-clause-ok : goal.returns-in-Ok-format-clause-ok
 returns-in-Ok-format-clause-ok g c =

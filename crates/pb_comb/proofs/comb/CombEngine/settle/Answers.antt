@@ -47,7 +47,7 @@ pub invariant_of-self-2 : goal.invariant_of-self-2
 invariant_of-self-2 g c =
     let i = c.self.inside in
     let unsettled : IsUnsettled g.O.Object.KIND i.pair (g.O.Object.state i.object) (g.O.Object.state i.ahead) i.next i.asked.items = record { is = c.self.invariant; unsure = ap (λ (e : EngineView). e.sure) c.self.view_is ∙ c.requires } in
-    (settled_both g.O.Object.KIND i.pair c.settle.new.self (g.O.Object.state i.object) (g.O.Object.state i.ahead) (g.O.Object.state c.agree.new.object) (g.O.Object.state c.agree.new.ahead) i.next i.asked.items c.clear.new.self.items c.in_ok-recorded.recorded (same_answer c.in_ok-recorded.recorded (was_called i.pair.doubt) c.in_ok-recorded.ensures.answer) unsettled c.in_ok-recorded.ensures.ok c.agree.ensures.object c.agree.ensures.ahead c.clear.ensures).0
+    (settled_both g.O.Object.KIND i.pair c.settle.new.self (g.O.Object.state i.object) (g.O.Object.state i.ahead) (g.O.Object.state c.agree.new.object) (g.O.Object.state c.agree.new.ahead) i.next i.asked.items c.clear.new.self.items c.follow.new.self c.in_ok-recorded.recorded (same_answer c.in_ok-recorded.recorded (was_called i.pair.doubt) c.in_ok-recorded.ensures.answer) unsettled c.in_ok-recorded.ensures.ok (c.follow.ensures ∙ c.lines_of.ensures) c.agree.ensures.object c.agree.ensures.ahead c.clear.ensures).0
 
 pub returns-clause-ok : goal.returns-clause-ok
 returns-clause-ok g c =
@@ -55,7 +55,7 @@ returns-clause-ok g c =
     let unsettled : IsUnsettled g.O.Object.KIND i.pair (g.O.Object.state i.object) (g.O.Object.state i.ahead) i.next i.asked.items = record { is = c.self.invariant; unsure = ap (λ (e : EngineView). e.sure) c.self.view_is ∙ c.requires } in
     let new = comb_view c.settle.new.self (g.O.Object.state c.agree.new.object) c.clear.new.self.items in
     subst (λ (e : EngineView). HasSettled e new) c.self.view_is
-    (settled_both g.O.Object.KIND i.pair c.settle.new.self (g.O.Object.state i.object) (g.O.Object.state i.ahead) (g.O.Object.state c.agree.new.object) (g.O.Object.state c.agree.new.ahead) i.next i.asked.items c.clear.new.self.items c.in_ok-recorded.recorded (same_answer c.in_ok-recorded.recorded (was_called i.pair.doubt) c.in_ok-recorded.ensures.answer) unsettled c.in_ok-recorded.ensures.ok c.agree.ensures.object c.agree.ensures.ahead c.clear.ensures).1
+    (settled_both g.O.Object.KIND i.pair c.settle.new.self (g.O.Object.state i.object) (g.O.Object.state i.ahead) (g.O.Object.state c.agree.new.object) (g.O.Object.state c.agree.new.ahead) i.next i.asked.items c.clear.new.self.items c.follow.new.self c.in_ok-recorded.recorded (same_answer c.in_ok-recorded.recorded (was_called i.pair.doubt) c.in_ok-recorded.ensures.answer) unsettled c.in_ok-recorded.ensures.ok (c.follow.ensures ∙ c.lines_of.ensures) c.agree.ensures.object c.agree.ensures.ahead c.clear.ensures).1
 
 pub returns-clause-safe : goal.returns-clause-safe
 returns-clause-safe g c =
@@ -69,5 +69,5 @@ pub returns-clause-sound : goal.returns-clause-sound
 returns-clause-sound g c =
     let i = c.self.inside in
     let unsettled : IsUnsettled g.O.Object.KIND i.pair (g.O.Object.state i.object) (g.O.Object.state i.ahead) i.next i.asked.items = record { is = c.self.invariant; unsure = ap (λ (e : EngineView). e.sure) c.self.view_is ∙ c.requires } in
-    engine_of g.O.Object.KIND c.settle.new.self (g.O.Object.state c.agree.new.object) (g.O.Object.state c.agree.new.ahead) i.next c.clear.new.self.items
-    (settled_both g.O.Object.KIND i.pair c.settle.new.self (g.O.Object.state i.object) (g.O.Object.state i.ahead) (g.O.Object.state c.agree.new.object) (g.O.Object.state c.agree.new.ahead) i.next i.asked.items c.clear.new.self.items c.in_ok-recorded.recorded (same_answer c.in_ok-recorded.recorded (was_called i.pair.doubt) c.in_ok-recorded.ensures.answer) unsettled c.in_ok-recorded.ensures.ok c.agree.ensures.object c.agree.ensures.ahead c.clear.ensures).0
+    engine_of g.O.Object.KIND c.settle.new.self (g.O.Object.state c.agree.new.object) (g.O.Object.state c.agree.new.ahead) c.follow.new.self c.clear.new.self.items
+    (settled_both g.O.Object.KIND i.pair c.settle.new.self (g.O.Object.state i.object) (g.O.Object.state i.ahead) (g.O.Object.state c.agree.new.object) (g.O.Object.state c.agree.new.ahead) i.next i.asked.items c.clear.new.self.items c.follow.new.self c.in_ok-recorded.recorded (same_answer c.in_ok-recorded.recorded (was_called i.pair.doubt) c.in_ok-recorded.ensures.answer) unsettled c.in_ok-recorded.ensures.ok (c.follow.ensures ∙ c.lines_of.ensures) c.agree.ensures.object c.agree.ensures.ahead c.clear.ensures).0

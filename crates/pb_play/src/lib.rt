@@ -1,0 +1,28 @@
+//! The core played: every event of every client, of the device and of a crash, one at a time, on data in memory.
+#![tactic(auto)]
+
+mod between;
+mod calls;
+mod crash;
+mod device;
+mod events;
+mod hold;
+mod items;
+mod memory;
+mod next;
+mod place;
+mod possible;
+mod publish;
+mod queue;
+mod reopen;
+mod scan;
+mod seat;
+mod serving;
+mod settle;
+mod store;
+mod wait;
+mod work;
+mod world;
+
+pub use events::step;
+pub use world::World;

@@ -1,0 +1,75 @@
+//! Events that are drawn by chance.
+ghost use Rattle.std.specs.Prelude.{◌<◌};
+
+use pb_core::Event;
+use pb_image::How;
+use pb_object::{Ask, Op};
+
+/// How many clients there are.
+pub const CLIENTS: u32 = 3;
+
+/// Draws by a generator of Lehmer's.
+#[derive(Drop)]
+pub struct Chance {
+    state: u32,
+}
+
+impl Chance {
+    /// The draws from a seed on.
+    pub fn new(seed: u32) -> Self {
+        Chance { state: seed }
+    }
+
+    /// A number below a bound.
+    fn below(&mut self, bound: u32) -> u32
+        requires { 0 < bound }
+        ensures { result < bound }
+    {
+        self.state = (u64::from(self.state) * 48271 % 2147483647) as u32;
+        self.state % bound
+    }
+
+    fn how(&mut self) -> How {
+        match self.below(4) {
+            0 => How::Left,
+            1 => How::Done,
+            2 => How::Torn(9),
+            _ => How::Fenced,
+        }
+    }
+
+    fn crash(&mut self) -> Event {
+        Event::Crash {
+            cut: self.below(12),
+            pick: u64::from(self.below(4)),
+        }
+    }
+
+    // A client puts something into register 0.
+    fn ask(&mut self, client: u32, number: u64) -> Event {
+        let op = Op {
+            code: 2,
+            a: 0,
+            b: u64::from(self.below(100)),
+            c: 0,
+        };
+        Event::Ask(Ask { client, number, op })
+    }
+
+    /// The next event: mostly a step of some client, sometimes a failing call, and now and then a crash. The clients ask with these
+    /// numbers.
+    pub fn event(&mut self, next: &[u64; 3]) -> Event {
+        let client = self.below(CLIENTS);
+        match self.below(64) {
+            0 => self.crash(),
+            1 => Event::Fail {
+                client,
+                how: self.how(),
+            },
+            2 => Event::ReopenFail { how: self.how() },
+            3..=9 => Event::Reopen,
+            10..=20 => self.ask(client, next[client as usize]),
+            _ => Event::Step { client },
+        }
+    }
+}

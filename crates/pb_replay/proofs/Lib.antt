@@ -1,0 +1,5 @@
+mod Explaining
+mod Making
+mod Playings
+mod Surveys
+mod Writing

@@ -1,0 +1,5 @@
+pub mod AnswerText
+pub mod Explained
+pub mod Playing
+pub mod Replay
+pub mod Survey

@@ -1,0 +1,82 @@
+//! A run whose device fails at one of its calls, at each of them and in each way, and the runs after it: in the end each
+//! request took effect once.
+use crate::rows;
+use crate::rows::{TWO, TWO_REPORT};
+use crate::run::{failing, run};
+use pb_image::{Call, How, Image};
+use std::alloc::Global;
+use std::process::Abort;
+
+// The words that make a region, a script, and what the script prints and the region reports where nothing fails.
+type Case = (&'static str, &'static str, &'static str, &'static str);
+
+const MAP: Case = (
+    "fresh map 2 4",
+    TWO,
+    "0 1 new was 0 1\n1 1 new was 0 1\n",
+    TWO_REPORT,
+);
+
+const QUEUE: Case = (
+    "fresh queue 1 2",
+    "0 1 put 1\n0 2 put 2\n0 3 put 3\n0 4 take\n0 5 put 4\n0 6 take\n",
+    "0 1 new at 0\n0 2 new at 1\n0 3 new full\n0 4 new item 1 0\n0 5 new at 2\n0 6 new item 2 1\n",
+    "kind queue\nclients 1\nsize 2\nrounds 4 2\nclient 0 6 take item 2 1\nitems 1\nitem 4 2\n",
+);
+
+// Which calls fail, and how. What is torn but no write, or fenced but no sync, leaves nothing.
+type Way = (Call, How);
+
+// Runs the script again to its end, and makes the region first where there is none.
+fn to_the_end(rt: &impl Abort, alloc: Global, device: Image, case: &Case) -> Image {
+    let (fresh, script, text, _) = *case;
+    let (done, sink) = run(rt, alloc, "run", script, 4096, device);
+    if done.status.code() == 0 {
+        return done.device;
+    }
+    assert!(rt; done.status.code() == 7 && sink.bytes() == b"none\n".as_slice());
+    rows::call(rt, alloc, done.device, &(fresh, script, text, 0, None))
+}
+
+// Runs a script whose device fails at a call of a kind, and goes on. Answers whether there was such a call.
+fn fails_at(rt: &impl Abort, alloc: Global, case: &Case, (call, how): Way, nth: u64) -> bool {
+    let (fresh, script, _, report) = *case;
+    let device = failing(rt, alloc, call, &[nth], how);
+    let (done, _) = run(rt, alloc, fresh, script, 4096, device);
+    let status = done.status.code();
+    assert!(rt; status == 0 || status == 6, "call {nth}");
+    let mut device = done.device;
+    device.failing(Vec::new(alloc));
+    let device = to_the_end(rt, alloc, device, case);
+    rows::call(rt, alloc, device, &("report", "", report, 0, None));
+    status == 6
+}
+
+// Fails at each call of a kind in one way. There are so many of them.
+fn fails_at_each(rt: &impl Abort, alloc: Global, case: &Case, way: Way, calls: u64) {
+    let end = calls.saturating_add(1);
+    for nth in 1..end {
+        assert!(rt; fails_at(rt, alloc, case, way, nth), "call {nth}");
+    }
+    assert!(rt; !fails_at(rt, alloc, case, way, end));
+}
+
+#[test]
+fn of_a_map(rt: HostRuntime) {
+    fails_at_each(&rt, rt.alloc(), &MAP, (Call::Any, How::Left), 66);
+    fails_at_each(&rt, rt.alloc(), &MAP, (Call::Any, How::Done), 66);
+    fails_at_each(&rt, rt.alloc(), &MAP, (Call::Write, How::Torn(9)), 42);
+    fails_at_each(&rt, rt.alloc(), &MAP, (Call::Sync, How::Fenced), 3);
+}
+
+#[test]
+fn of_a_queue_that_leaves_nothing(rt: HostRuntime) {
+    fails_at_each(&rt, rt.alloc(), &QUEUE, (Call::Any, How::Left), 112);
+}
+
+#[test]
+fn of_a_queue_that_leaves_something(rt: HostRuntime) {
+    fails_at_each(&rt, rt.alloc(), &QUEUE, (Call::Any, How::Done), 112);
+    fails_at_each(&rt, rt.alloc(), &QUEUE, (Call::Write, How::Torn(9)), 64);
+    fails_at_each(&rt, rt.alloc(), &QUEUE, (Call::Sync, How::Fenced), 7);
+}

@@ -1,0 +1,15 @@
+pub mod Ends
+pub mod Seats
+pub mod Opens
+pub mod Asks
+pub mod Holds
+pub mod Known
+pub mod LetsGo
+pub mod Movers
+pub mod Prepared
+pub mod Rounds
+pub mod Runs
+pub mod Slots
+pub mod Takes
+pub mod Waits
+pub mod WordLemmas

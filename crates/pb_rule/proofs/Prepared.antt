@@ -1,0 +1,357 @@
+-- The calls of the device that a holder made since its last step, as moves of the core.
+use Rattle.std.proofs.Common.{◌+◌, ◌≡◌, ◌≢◌, ℕ, suc, ◌<◌, Bool, true, false, List, [], ◌∷◌, ◌++◌, length, Option, Some, None, sym, refl, ap, ◌∙◌, subst}
+use Rattle.std.proofs.lemmas.Bool.{false≢true}
+use lib.ListN.{get_elem?}
+use mathlib.Core.Option.{some}
+use Rattle.atomic_table.specs.Table.{State}
+use Rattle.pb_object.specs.declared.kind.Kind.{Kind}
+use Rattle.pb_object.specs.declared.request.Ask.{Ask}
+use Rattle.pb_object.specs.History.{Round, History, after_round, state_after, IsLegalRound}
+use Rattle.pb_object.specs.Standing.{Standing}
+use Rattle.pb_pmem.specs.declared.device.DeviceFault.{DeviceFault}
+use Rattle.pb_pmem.specs.Count.{Rose}
+use Rattle.pb_core.specs.Client.{Client, is_holding}
+use Rattle.pb_core.specs.HolderMoves.{round_by, HolderMove, beginning, recording, settling_none, settling_round, failing_settling, failing_before, failing_after, Begins}
+use Rattle.pb_core.specs.Memory.{Held, AtNumber, Work, Settling, Scanning, Calling, Filling, Noting, Engine, Resting, Recorded, Writing, Doubtful, Memory, clients_of, shown, known, known_by, with_round, coming, side_of}
+use Rattle.pb_core.specs.MemoryParts.{IsMemory, IsScan}
+use Rattle.pb_core.specs.MemoryRun.{called}
+use Rattle.pb_core.proofs.Holding.{begins_legal}
+use Rattle.pb_core.proofs.Scans.{the_scan, known_shown, meets_some}
+use Rattle.pb_core.proofs.Turns.{work_suits}
+use Rattle.pb_engine.specs.Asks.{asked_round}
+use Rattle.pb_engine.specs.Good.{settled_rounds, with_doubt}
+use Rattle.pb_engine.specs.View.{EngineView, FailedRound, IsEngine, was_called, settled_by, settled_standing}
+use Rattle.pb_engine.proofs.Coming.{after_round_made, after_round_failed, after_settled, after_settling_failed}
+use Rattle.pb_rule.specs.View.{HasComeBy, OwnRound, PassView, numbers_of}
+use Rattle.pb_rule.specs.Plays.{own_by}
+use Rattle.pb_rule.specs.Ready.{Settled, FailedSettling, MadeRound, FailedRound as FailedMaking, Ready, untouched, settled_none, settled_round, recorded, failed_settling, failed_round}
+use Rattle.pb_rule.specs.Rule.{called_if, called_round, SuitsEngine, recorded_by, IsTied, IsAhead, IsOwn, IsHolder, HasNothing, IsViewOf, HasRun, Keeps}
+use Rattle.pb_rule.proofs.Known.{started}
+use Rattle.pb_rule.proofs.Movers.{own_view, is_memory}
+use Rattle.pb_rule.proofs.Rounds.{round_same}
+use Rattle.pb_rule.proofs.Runs.{moved_on}
+
+-- memory after the holder's calls: it alone may have changed so much
+abbrev pub called_to : Memory → Option Round → Engine → ℕ → Work → Memory
+called_to m ahead engine count work = record m { ahead = ahead; engine = engine; count = count; work = work }
+
+-- the calls were made: memory is at this work, and the engine suits it
+pub record IsPrepared (kind : Kind) (start : EngineView) (m : Memory) (before now : EngineView) (work : Work) : Type 0 where
+  pub ahead : Option Round
+  pub engine : Engine
+  pub count : ℕ
+  pub run : HasRun start (called_to m ahead engine count work)
+  pub tied : IsTied kind start (called_to m ahead engine count work) now
+  -- the round that is filled from a scan is the one ahead, and else a round of one's own stays as it is
+  pub fills : (stored : ℕ) → work ≡ Filling stored → (own : Option OwnRound) → IsOwn m.start m.published m.ahead own → IsOwn m.start m.published ahead (own_by before (length m.published) m.work own)
+  pub stays : ((stored : ℕ) → work ≢ Filling stored) → (own : Option OwnRound) → IsOwn m.start m.published m.ahead own → IsOwn m.start m.published ahead own
+
+-- what a doubt says of the round ahead
+uncalled_none : (doubt : Option FailedRound) → was_called doubt ≡ false → called_round doubt ≡ None
+uncalled_none None is = refl
+uncalled_none (Some failed) is = ap (λ (b : Bool). called_if b failed.round) is
+
+uncalled_standing : (s : Standing) (doubt : Option FailedRound) → was_called doubt ≡ false → settled_standing s doubt ≡ s
+uncalled_standing s None is = refl
+uncalled_standing s (Some failed) is = ap (λ (b : Bool). settled_by b s failed.round) is
+
+uncalled_rounds : (rounds : History) (doubt : Option FailedRound) → was_called doubt ≡ false → settled_rounds rounds doubt ≡ rounds
+uncalled_rounds rounds None is = refl
+uncalled_rounds rounds (Some failed) is = ap (λ (b : Bool). with_doubt b rounds failed.round) is
+
+-- a round in doubt whose index word was called
+record IsCalled (s : Standing) (rounds : History) (doubt : Option FailedRound) : Type 0 where
+  pub round : Round
+  pub is : called_round doubt ≡ Some round
+  pub standing : settled_standing s doubt ≡ after_round s round
+  pub rounds_are : settled_rounds rounds doubt ≡ rounds ++ round ∷ []
+
+called_some : (s : Standing) (rounds : History) (doubt : Option FailedRound) → was_called doubt ≡ true → IsCalled s rounds doubt
+called_some s rounds None is = absurd (false≢true is)
+called_some s rounds (Some failed) is = record {
+  round = failed.round;
+  is = ap (λ (b : Bool). called_if b failed.round) is;
+  standing = ap (λ (b : Bool). settled_by b s failed.round) is;
+  rounds_are = ap (λ (b : Bool). with_doubt b rounds failed.round) is;
+}
+
+-- Rounds of one's own
+
+-- with nothing ahead there is none
+none_ahead : (start : Standing) (published : History) (ahead later : Option Round) (own : Option OwnRound) → ahead ≡ None → IsOwn start published ahead own → IsOwn start published later own
+none_ahead start published ahead later None none is = tt
+none_ahead start published ahead later (Some own) none is =
+    absurd (none_some is.round (sym none ∙ is.ahead_is))
+  where
+    none_some : (round : Round) → None ≡ Some round → ⊥
+    none_some round e = cc
+
+own_at : (work known : Work) (before : EngineView) (rounds : ℕ) (own : Option OwnRound) (start : Standing) (published : History) (ahead : Option Round) → work ≡ known → IsOwn start published ahead (own_by before rounds known own) → IsOwn start published ahead (own_by before rounds work own)
+own_at work known before rounds own start published ahead is fits =
+    subst (λ (w : Work). IsOwn start published ahead (own_by before rounds w own)) (sym is) fits
+
+module _ {X : Type 0} (seen : X → EngineView) (kind : Kind) (start : EngineView) where
+  abbrev Rule : State (Option X) (List PassView) → Type 0
+  Rule = Keeps seen kind start
+
+  -- what the rule says of the pass that holds the turn
+  pub record HasTurn {s : State (Option X) (List PassView)} (r : Rule s) (v : PassView) (before : EngineView) : Type 0 where
+    pub holding : is_holding v.body.stage ≡ true
+    pub owner : r.m.owner ≡ Held v.client (side_of (r.m.book v.client).ask.op)
+    pub same : r.engine ≡ before
+    pub holder : IsHolder r.m r.engine v
+
+  pub has_turn : {s : State (Option X) (List PassView)} (r : Rule s) (id : ℕ) (v : PassView) (before : EngineView) → get_elem? s.views id ≡ some (v ∷ []) → v.hand ≡ Some before → HasTurn r v before
+  has_turn {s} r id v before at hand = go (is_holding v.body.stage) refl
+    where
+      own : IsViewOf r.m r.engine v
+      own = own_view seen kind start r id v at
+
+      engine_of : Option EngineView → EngineView
+      engine_of None = before
+      engine_of (Some e) = e
+
+      go : (b : Bool) → is_holding v.body.stage ≡ b → HasTurn r v before
+      go false free =
+          let nothing : HasNothing v = own.other free in
+          absurd (none_some (sym nothing.hand ∙ hand))
+        where
+          none_some : None ≡ Some before → ⊥
+          none_some e = cc
+      go true holds =
+          let holder : IsHolder r.m r.engine v = own.holder holds in
+          record {
+            holding = holds;
+            owner = ((is_memory seen kind start r).clients v.client own.there).holding (ap (λ (b : Client). is_holding b.stage) (sym own.body) ∙ holds);
+            same = same_some (sym holder.hand ∙ hand);
+            holder = holder;
+          }
+        where
+          same_some : Some r.engine ≡ Some before → r.engine ≡ before
+          same_some e = cc
+
+  module _ {s : State (Option X) (List PassView)} (r : Rule s) (c : ℕ) (there : c < clients_of r.m) (held : r.m.owner ≡ Held c (side_of (r.m.book c).ask.op)) where
+    is : IsMemory r.m
+    is = is_memory seen kind start r
+
+    abbrev side : ℕ
+    side = side_of (r.m.book c).ask.op
+
+    scanning_filling : (stored : ℕ) → Scanning 0 AtNumber [] ≡ Filling stored → ⊥
+    scanning_filling stored e = cc
+
+    noting_filling : (from to stored : ℕ) → Noting from to ≡ Filling stored → ⊥
+    noting_filling from to stored e = cc
+
+    -- one call is one move
+    one_call : (new : Memory) → HolderMove r.m c new → HasRun start new
+    one_call new move = moved_on r.run (called c there move)
+
+    -- the device, while settling is due
+    doubtful : r.m.work ≡ Settling → r.m.engine ≡ Doubtful
+    doubtful at = work_suits Settling is held at
+
+    settling_suits : r.m.work ≡ Settling → (r.engine.sure ≡ false) × (called_round r.engine.doubt ≡ r.m.ahead)
+    settling_suits at =
+        subst (λ (e : Engine). SuitsEngine e r.m.ahead r.engine) (doubtful at) r.tied.suits
+
+    settling_known : r.m.work ≡ Settling → r.engine.standing ≡ shown r.m
+    settling_known at =
+        r.tied.standing ∙ ap (λ (e : Engine). known_by e r.m.ahead (shown r.m)) (doubtful at)
+
+    settling_come : r.m.work ≡ Settling → HasComeBy start r.engine r.m.published
+    settling_come at =
+        subst (λ (e : Engine). HasComeBy start r.engine (recorded_by e r.m.ahead r.m.published)) (doubtful at) r.tied.come
+
+    prepare_untouched : (now : EngineView) (work : Work) → work ≡ r.m.work → now ≡ r.engine → IsPrepared kind start r.m r.engine now work
+    prepare_untouched now work work_is now_is = subst (λ (w : Work). IsPrepared kind start r.m r.engine now w) (sym work_is) (record {
+      ahead = r.m.ahead;
+      engine = r.m.engine;
+      count = r.m.count;
+      run = r.run;
+      tied = subst (IsTied kind start r.m) (sym now_is) r.tied;
+      fills = λ stored fills own is. own_at r.m.work (Filling stored) r.engine (length r.m.published) own r.m.start r.m.published r.m.ahead fills is;
+      stays = λ never own is. is;
+    })
+
+    prepare_none : (now : EngineView) (work : Work) → IsEngine kind now → r.m.work ≡ Settling → was_called r.engine.doubt ≡ false → Settled r.engine now → work ≡ Scanning 0 AtNumber [] → IsPrepared kind start r.m r.engine now work
+    prepare_none now work sound at uncalled settled work_is = subst (λ (w : Work). IsPrepared kind start r.m r.engine now w) (sym work_is) (record {
+      ahead = r.m.ahead;
+      engine = Resting;
+      count = r.m.count;
+      run = one_call _ (settling_none (record { side = side; holds = held; at = at; none = sym (settling_suits at).1 ∙ uncalled_none r.engine.doubt uncalled; is = refl }));
+      tied = record {
+        standing = settled.settled.standing ∙ (uncalled_standing r.engine.standing r.engine.doubt uncalled ∙ settling_known at);
+        count = settled.settled.device.faults ∙ r.tied.count;
+        suits = settled.settled.sure;
+        come = subst (HasComeBy start now) (uncalled_rounds r.m.published r.engine.doubt uncalled) ((settling_come at).0, after_settled start r.engine now r.m.published (settling_come at).0 (settling_come at).1 r.tied.sound.legal (settling_suits at).0 settled.settled settled.covers);
+        sound = sound;
+      };
+      fills = λ stored fills. absurd (scanning_filling stored fills);
+      stays = λ never own is. is;
+    })
+
+    prepare_round : (now : EngineView) (work : Work) → IsEngine kind now → r.m.work ≡ Settling → was_called r.engine.doubt ≡ true → Settled r.engine now → work ≡ Filling 0 → IsPrepared kind start r.m r.engine now work
+    prepare_round now work sound at was settled work_is = subst (λ (w : Work). IsPrepared kind start r.m r.engine now w) (sym work_is) (record {
+      ahead = r.m.ahead;
+      engine = Recorded;
+      count = r.m.count;
+      run = one_call _ (settling_round (record { side = side; holds = held; round = doubt.round; at = at; some = ahead_is; is = refl }));
+      tied = record {
+        standing = settled.settled.standing ∙ (doubt.standing ∙ (λ i. with_round (sym ahead_is i) (settling_known at i)));
+        count = settled.settled.device.faults ∙ r.tied.count;
+        suits = settled.settled.sure;
+        come = subst (HasComeBy start now) (doubt.rounds_are ∙ ap (λ (a : Option Round). r.m.published ++ coming a) (sym ahead_is)) ((settling_come at).0, after_settled start r.engine now r.m.published (settling_come at).0 (settling_come at).1 r.tied.sound.legal (settling_suits at).0 settled.settled settled.covers);
+        sound = sound;
+      };
+      fills = λ stored fills own is. own_at r.m.work Settling r.engine (length r.m.published) own r.m.start r.m.published r.m.ahead at tt;
+      stays = λ never. absurd (never 0 refl);
+    })
+      where
+        doubt : IsCalled r.engine.standing r.m.published r.engine.doubt
+        doubt = called_some r.engine.standing r.m.published r.engine.doubt was
+
+        ahead_is : r.m.ahead ≡ Some doubt.round
+        ahead_is = sym (settling_suits at).1 ∙ doubt.is
+
+    prepare_failed_settling : (fault : DeviceFault) (now : EngineView) (work : Work) → IsEngine kind now → r.m.work ≡ Settling → FailedSettling fault r.engine now → work ≡ Noting r.engine.device.faults now.device.faults → IsPrepared kind start r.m r.engine now work
+    prepare_failed_settling fault now work sound at failed work_is = subst (λ (w : Work). IsPrepared kind start r.m r.engine now w) (sym (work_is ∙ ap (λ (n : ℕ). Noting n now.device.faults) r.tied.count)) (record {
+      ahead = r.m.ahead;
+      engine = r.m.engine;
+      count = now.device.faults;
+      run = one_call _ (failing_settling (record { side = side; holds = held; to = now.device.faults; at = at; rose = subst (λ (n : ℕ). Rose n now.device.faults) r.tied.count failed.failed.device.stops.rose; is = refl }));
+      tied = record {
+        standing = failed.failed.standing ∙ r.tied.standing;
+        count = refl;
+        suits = subst (λ (e : Engine). SuitsEngine e r.m.ahead now) (sym (doubtful at)) (failed.failed.unsure.sure, ap called_round failed.failed.doubt ∙ (settling_suits at).1);
+        come = subst (λ (e : Engine). HasComeBy start now (recorded_by e r.m.ahead r.m.published)) (sym (doubtful at)) ((settling_come at).0 + 1, after_settling_failed start r.engine now r.m.published (settling_come at).0 fault (settling_come at).1 (settling_suits at).0 failed.failed failed.covers);
+        sound = sound;
+      };
+      fills = λ stored fills. absurd (noting_filling r.m.count now.device.faults stored fills);
+      stays = λ never own is. is;
+    })
+
+    -- A round
+
+    module _ (asks : List Ask) (at : r.m.work ≡ Scanning (clients_of r.m) AtNumber asks) where
+      scan : IsScan (shown r.m) c side r.m.start.clients r.m.requests (clients_of r.m) AtNumber asks
+      scan = the_scan (clients_of r.m) AtNumber asks is held at
+
+      resting : (r.m.engine ≡ Resting) × (r.m.ahead ≡ None)
+      resting = work_suits (Scanning (clients_of r.m) AtNumber asks) is held at
+
+      sure : r.engine.sure ≡ true
+      sure = subst (λ (e : Engine). SuitsEngine e r.m.ahead r.engine) resting.0 r.tied.suits
+
+      decided : r.engine.doubt ≡ None
+      decided = r.tied.sound.decided sure
+
+      scan_known : r.engine.standing ≡ shown r.m
+      scan_known = r.tied.standing ∙ known_shown (clients_of r.m) AtNumber asks is held at
+
+      scan_come : HasComeBy start r.engine r.m.published
+      scan_come =
+          subst (λ (e : Engine). HasComeBy start r.engine (recorded_by e r.m.ahead r.m.published)) resting.0 r.tied.come
+
+      abbrev begun_to : Memory
+      begun_to = record r.m { ahead = Some (round_by side (known r.m) asks); work = Calling; engine = Writing }
+
+      abbrev begins : Begins r.m c begun_to
+      begins = record { side = side; holds = held; seen = asks; at = at; is = refl }
+
+      begun_run : HasRun start begun_to
+      begun_run = one_call begun_to (beginning begins)
+
+      round_is : asked_round r.engine.standing asks ≡ round_by side (known r.m) asks
+      round_is =
+          round_same (shown r.m) side 0 r.m.start.clients r.m.requests asks (meets_some c asks (scan.own there)) scan.seen_are r.engine.standing ∙ ap (λ (t : Standing). round_by side t asks) r.tied.standing
+
+      legal : IsLegalRound r.engine.standing (asked_round r.engine.standing asks)
+      legal =
+          subst (λ (t : Standing). IsLegalRound t (asked_round r.engine.standing asks)) (sym scan_known) (subst (IsLegalRound (shown r.m)) (sym (round_is ∙ ap (λ (t : Standing). round_by side t asks) (sym r.tied.standing ∙ scan_known))) (begins_legal is there begins))
+
+      own_ahead : IsAhead r.m.start r.m.published (Some (round_by side (known r.m) asks)) (record { number = suc (length r.m.published); entries = (asked_round r.engine.standing asks).entries; kept = numbers_of r.engine.standing })
+      own_ahead = record {
+        number = refl;
+        round = round_by side (known r.m) asks;
+        ahead_is = refl;
+        entries = ap (λ (round : Round). round.entries) round_is;
+        kept = ap numbers_of (scan_known ∙ ap (λ (past : History). state_after r.m.start (past ++ r.m.published)) (started r.run).1);
+      }
+
+      prepare_recorded : (now : EngineView) (work : Work) → IsEngine kind now → MadeRound asks r.engine now → work ≡ Filling 0 → IsPrepared kind start r.m r.engine now work
+      prepare_recorded now work sound made work_is = subst (λ (w : Work). IsPrepared kind start r.m r.engine now w) (sym work_is) (record {
+        ahead = Some (round_by side (known r.m) asks);
+        engine = Recorded;
+        count = r.m.count;
+        run = moved_on begun_run (called c there (recording (record { side = side; holds = held; at = refl; is = refl })));
+        tied = record {
+          standing = made.made.standing ∙ (λ i. after_round (scan_known i) (round_is i));
+          count = made.made.device.faults ∙ r.tied.count;
+          suits = made.made.sure;
+          come = subst (λ (round : Round). HasComeBy start now (r.m.published ++ round ∷ [])) round_is (scan_come.0, after_round_made start r.engine now r.m.published scan_come.0 (asked_round r.engine.standing asks) scan_come.1 legal sure decided made.made made.covers);
+          sound = sound;
+        };
+        fills = λ stored fills own is. own_at r.m.work (Scanning (clients_of r.m) AtNumber asks) r.engine (length r.m.published) own r.m.start r.m.published (Some (round_by side (known r.m) asks)) at own_ahead;
+        stays = λ never. absurd (never 0 refl);
+      })
+
+      prepare_failed : (fault : DeviceFault) (now : EngineView) (work : Work) → IsEngine kind now → FailedMaking asks fault r.engine now → work ≡ Noting r.engine.device.faults now.device.faults → IsPrepared kind start r.m r.engine now work
+      prepare_failed fault now work sound failed work_is =
+          subst (λ (w : Work). IsPrepared kind start r.m r.engine now w) (sym (work_is ∙ ap (λ (n : ℕ). Noting n now.device.faults) r.tied.count)) (go failed.failed.called refl)
+        where
+          rose : Rose r.m.count now.device.faults
+          rose = subst (λ (n : ℕ). Rose n now.device.faults) r.tied.count failed.failed.device.stops.rose
+
+          come : HasComeBy start now r.m.published
+          come = (scan_come.0 + 1, after_round_failed start r.engine now r.m.published scan_come.0 (asked_round r.engine.standing asks) fault scan_come.1 sure decided failed.failed failed.covers)
+
+          doubt_is : (b : Bool) → failed.failed.called ≡ b → called_round now.doubt ≡ called_if b (asked_round r.engine.standing asks)
+          doubt_is b e = ap called_round failed.failed.doubt ∙ ap (λ (x : Bool). called_if x (asked_round r.engine.standing asks)) e
+
+          go : (b : Bool) → failed.failed.called ≡ b → IsPrepared kind start r.m r.engine now (Noting r.m.count now.device.faults)
+          go false e = record {
+            ahead = None;
+            engine = Doubtful;
+            count = now.device.faults;
+            run = moved_on begun_run (called c there (failing_before (record { side = side; holds = held; to = now.device.faults; at = refl; rose = rose; is = refl })));
+            tied = record {
+              standing = failed.failed.standing ∙ scan_known;
+              count = refl;
+              suits = (failed.failed.unsure.sure, doubt_is false e);
+              come = come;
+              sound = sound;
+            };
+            fills = λ stored fills. absurd (noting_filling r.m.count now.device.faults stored fills);
+            stays = λ never own is. none_ahead r.m.start r.m.published r.m.ahead _ own resting.1 is;
+          }
+          go true e = record {
+            ahead = Some (round_by side (known r.m) asks);
+            engine = Doubtful;
+            count = now.device.faults;
+            run = moved_on begun_run (called c there (failing_after (record { side = side; holds = held; to = now.device.faults; at = refl; rose = rose; is = refl })));
+            tied = record {
+              standing = failed.failed.standing ∙ scan_known;
+              count = refl;
+              suits = (failed.failed.unsure.sure, doubt_is true e ∙ ap Some round_is);
+              come = come;
+              sound = sound;
+            };
+            fills = λ stored fills. absurd (noting_filling r.m.count now.device.faults stored fills);
+            stays = λ never own is. none_ahead r.m.start r.m.published r.m.ahead _ own resting.1 is;
+          }
+
+    -- whatever it called, memory is prepared
+    pub prepares : (clients : ℕ) (now : EngineView) (work : Work) → IsEngine kind now → clients ≡ clients_of r.m → Ready clients r.m.work r.engine now work → IsPrepared kind start r.m r.engine now work
+    prepares clients now work sound same (untouched work_is now_is) =
+        prepare_untouched now work work_is now_is
+    prepares clients now work sound same (settled_none at uncalled settled work_is) =
+        prepare_none now work sound at uncalled settled work_is
+    prepares clients now work sound same (settled_round at was settled work_is) =
+        prepare_round now work sound at was settled work_is
+    prepares clients now work sound same (recorded asks at made work_is) =
+        prepare_recorded asks (at ∙ ap (λ (n : ℕ). Scanning n AtNumber asks) same) now work sound made work_is
+    prepares clients now work sound same (failed_settling fault at failed work_is) =
+        prepare_failed_settling fault now work sound at failed work_is
+    prepares clients now work sound same (failed_round asks fault at failed work_is) =
+        prepare_failed asks (at ∙ ap (λ (n : ℕ). Scanning n AtNumber asks) same) fault now work sound failed work_is

@@ -1,0 +1,129 @@
+// What each step on a word tells. These types are for contracts alone.
+ghost use Rattle.std.specs.Prelude.{◌≡◌};
+ghost use Rattle.pb_rule.specs.Plays.{HasTakenOrMissed, IsNoEarlier, ScanIsOver, asked, stored, announced, first_look, last_look, confirms, row_number, row_word_found, given_up, with_view, lets_go, scan_step, fill_step, publish_step, note_step, engine_now, the_view};
+
+use crate::board::Views;
+use atomic_table::{Join, Play, Split};
+use pb_engine::Engine;
+use std::marker::{Brand, PhantomData};
+
+/// The request that a client asks, for contracts alone: the call that stores its first word picks it.
+pub trait Asking {
+    ghost use Rattle.pb_object.specs.declared.request.Ask.{Ask};
+
+    ghost ask: { Ask };
+}
+
+impl Asking for Brand {
+    ghost use Rattle.pb_core.specs.Client.{no_ask};
+
+    ghost ask = { no_ask };
+}
+
+pub struct StoresCode<A> {
+    asking: PhantomData<A>,
+}
+
+impl<E: Engine, A: Asking> Play<Option<E>, Views> for StoresCode<A> {
+    ghost then = { λ _ old _ new. new ≡ with_view (asked A.ask) old };
+}
+
+pub struct StoresArgument;
+
+impl<E: Engine> Play<Option<E>, Views> for StoresArgument {
+    ghost then = { λ _ old _ new. new ≡ with_view stored old };
+}
+
+pub struct Announces;
+
+impl<E: Engine> Play<Option<E>, Views> for Announces {
+    ghost then = { λ _ old _ new. new ≡ with_view announced old };
+}
+
+pub struct LooksFirst;
+
+impl<E: Engine> Play<Option<E>, Views> for LooksFirst {
+    ghost then = { λ _ old found new. (new ≡ with_view (first_look found) old) × IsNoEarlier found old };
+}
+
+pub struct LooksLast;
+
+impl<E: Engine> Play<Option<E>, Views> for LooksLast {
+    ghost then = { λ _ old found new. (new ≡ with_view (last_look found) old) × IsNoEarlier found old };
+}
+
+pub struct Confirms;
+
+impl<E: Engine> Play<Option<E>, Views> for Confirms {
+    ghost then = { λ _ old found new. (new ≡ with_view (confirms found) old) × IsNoEarlier found old };
+}
+
+pub struct FindsNumber;
+
+impl<E: Engine> Play<Option<E>, Views> for FindsNumber {
+    ghost then = { λ _ old found new. new ≡ with_view (row_number found) old };
+}
+
+pub struct FindsWord;
+
+impl<E: Engine> Play<Option<E>, Views> for FindsWord {
+    ghost then = { λ _ old found new. new ≡ with_view (row_word_found found) old };
+}
+
+pub struct TakesTurn;
+
+impl<E: Engine> Play<Option<E>, Views> for TakesTurn {
+    ghost then = { λ _ old found new. HasTakenOrMissed E.seen E.KIND found old new };
+}
+
+pub struct Scans;
+
+impl<E: Engine> Play<Option<E>, Views> for Scans {
+    ghost then = { λ _ old found new. (new ≡ scan_step E.seen found old) × ScanIsOver (engine_now E.seen old) (the_view new) };
+}
+
+pub struct Fills;
+
+impl<E: Engine> Play<Option<E>, Views> for Fills {
+    ghost then = { λ _ old _ new. new ≡ fill_step E.seen old };
+}
+
+pub struct Publishes;
+
+impl<E: Engine> Play<Option<E>, Views> for Publishes {
+    ghost then = { λ _ old _ new. new ≡ publish_step old };
+}
+
+pub struct Notes;
+
+impl<E: Engine> Play<Option<E>, Views> for Notes {
+    ghost then = { λ _ old _ new. new ≡ note_step E.seen old };
+}
+
+pub struct GivesUp;
+
+impl<E: Engine> Play<Option<E>, Views> for GivesUp {
+    ghost then = { λ _ old _ new. new ≡ lets_go given_up old };
+}
+
+/// A seat of its own for the first view.
+pub struct FirstView;
+
+impl Split<Views> for FirstView {
+    ghost use Rattle.pb_rule.specs.Opening.{first_of, rest_of};
+
+    ghost left = { rest_of };
+
+    ghost right = { first_of };
+}
+
+/// The views of another seat before one's own.
+pub struct JoinsViews;
+
+impl Join<Views> for JoinsViews {
+    ghost use Rattle.std.specs.Prelude.{[], ◌++◌};
+
+    ghost both = { λ own other. other ++ own };
+
+    ghost spent = { [] };
+}

@@ -1,0 +1,24 @@
+//! Taking the turn, and what a holder asks of the engine that it got with it.
+ghost use Rattle.std.specs.Prelude.{◌≡◌, ◌<◌, ◌≤◌, ◌+◌, ◌^◌, true, false, slice_index_or, Option, Some};
+ghost use Rattle.pb_core.specs.Client.{Taking};
+ghost use Rattle.pb_object.specs.Standing.{newest_of};
+ghost use Rattle.pb_rule.specs.Plays.{IsPlain, HoldsSlot, HasTakenOrMissed, the_view, first_turn, engine_now};
+ghost use Rattle.pb_rule.specs.Seats.{IsAt};
+
+use crate::board::{Board, Place};
+use crate::places::TURN;
+use crate::plays::TakesTurn;
+use pb_engine::Engine;
+
+/// Takes the turn, where it is free and as it was found first. The answer is the turn word that is met: where it is another one, the turn
+/// isn't taken.
+pub fn take_turn<E: Engine>(board: &Board<E>, seat: &mut Place<E>, turn: u64, found: u64) -> u64
+    requires at { IsAt board.now.table_id seat.old.table_id (the_view seat.old.me).clients }
+    requires plain { IsPlain seat.old.me }
+    requires stage { (the_view seat.old.me).body.stage ≡ Taking turn found }
+    requires room { turn + 1 < 2 ^ 64 }
+    ensures table { seat.new.table_id ≡ seat.old.table_id }
+    ensures taken { HasTakenOrMissed E.seen E.KIND result seat.old.me seat.new.me }
+{
+    board.compare_exchange::<TakesTurn>(seat, TURN as usize, turn, turn + 1)
+}

@@ -1,0 +1,10 @@
+pub mod TryLemmas
+pub mod ReadLemmas
+pub mod Held
+pub mod Fills
+pub mod Steps
+pub mod Looks
+pub mod Parts
+pub mod KeptLemmas
+pub mod Retries
+pub mod PassLemmas
