@@ -20,6 +20,7 @@ impl Asking for Brand {
     ghost ask = { no_ask };
 }
 
+/// A client stores the code of the request that it asks.
 pub struct StoresCode<A> {
     asking: PhantomData<A>,
 }
@@ -28,78 +29,91 @@ impl<E: Engine, A: Asking> Play<Option<E>, Views> for StoresCode<A> {
     ghost then = { λ _ old _ new. new ≡ with_view (asked A.ask) old };
 }
 
+/// A client stores one of its request's arguments.
 pub struct StoresArgument;
 
 impl<E: Engine> Play<Option<E>, Views> for StoresArgument {
     ghost then = { λ _ old _ new. new ≡ with_view stored old };
 }
 
+/// A client stores its request's number, which announces it.
 pub struct Announces;
 
 impl<E: Engine> Play<Option<E>, Views> for Announces {
     ghost then = { λ _ old _ new. new ≡ with_view announced old };
 }
 
+/// A waiting client loads the turn, and begins its notes anew.
 pub struct LooksFirst;
 
 impl<E: Engine> Play<Option<E>, Views> for LooksFirst {
     ghost then = { λ _ old found new. (new ≡ with_view (first_look found) old) × IsNoEarlier found old };
 }
 
+/// A waiting client loads the turn again, behind a row that lacks its request.
 pub struct LooksLast;
 
 impl<E: Engine> Play<Option<E>, Views> for LooksLast {
     ghost then = { λ _ old found new. (new ≡ with_view (last_look found) old) × IsNoEarlier found old };
 }
 
+/// A waiting client loads the turn again, behind a row that has its reply.
 pub struct Confirms;
 
 impl<E: Engine> Play<Option<E>, Views> for Confirms {
     ghost then = { λ _ old found new. (new ≡ with_view (confirms found) old) × IsNoEarlier found old };
 }
 
+/// A waiting client loads the number word of its published row.
 pub struct FindsNumber;
 
 impl<E: Engine> Play<Option<E>, Views> for FindsNumber {
     ghost then = { λ _ old found new. new ≡ with_view (row_number found) old };
 }
 
+/// A waiting client loads another word of its published row.
 pub struct FindsWord;
 
 impl<E: Engine> Play<Option<E>, Views> for FindsWord {
     ghost then = { λ _ old found new. new ≡ with_view (row_word_found found) old };
 }
 
+/// A waiting client takes the turn, or finds that another was first.
 pub struct TakesTurn;
 
 impl<E: Engine> Play<Option<E>, Views> for TakesTurn {
     ghost then = { λ _ old found new. HasTakenOrMissed E.seen E.KIND found old new };
 }
 
+/// The holder loads a word of a client's request.
 pub struct Scans;
 
 impl<E: Engine> Play<Option<E>, Views> for Scans {
     ghost then = { λ _ old found new. (new ≡ scan_step E.seen found old) × ScanIsOver (engine_now E.seen old) (the_view new) };
 }
 
+/// The holder stores a word of the row of the round to come.
 pub struct Fills;
 
 impl<E: Engine> Play<Option<E>, Views> for Fills {
     ghost then = { λ _ old _ new. new ≡ fill_step E.seen old };
 }
 
+/// The holder lets the turn go with one more round, and puts the engine back.
 pub struct Publishes;
 
 impl<E: Engine> Play<Option<E>, Views> for Publishes {
     ghost then = { λ _ old _ new. new ≡ publish_step old };
 }
 
+/// The holder stores the count of faults, behind a failed call.
 pub struct Notes;
 
 impl<E: Engine> Play<Option<E>, Views> for Notes {
     ghost then = { λ _ old _ new. new ≡ note_step E.seen old };
 }
 
+/// The holder lets the turn go without a round, and puts the engine back.
 pub struct GivesUp;
 
 impl<E: Engine> Play<Option<E>, Views> for GivesUp {
