@@ -15,7 +15,6 @@ printf '0 1 put 3 77\n1 1 put 1 6\n0 2 get 3\n1 2 cas 1 1 9\n' >"$script"
 once='kind map
 clients 2
 size 4
-rounds 4
 client 0 2 get 3 is 77 1
 client 1 2 cas 1 1 9 was 6 2
 registers 2
@@ -30,7 +29,7 @@ fail() {
 # Runs the script and lets a system call fail, or kills the program at it.
 fails_at() {
   {
-    strace -o "$folder/trace" -e trace="$call" -e inject="$1" \
+    strace -f -o "$folder/trace" -e trace="$call" -e inject="$1" \
       "$program" "$region" fresh map 2 4 <"$script" >/dev/null || true
   } 2>/dev/null
 }
@@ -45,7 +44,7 @@ to_the_end() {
     "$pbcomb" "$region" fresh map 2 4 <"$script" >/dev/null 2>&1 || status=$?
   fi
   [ "$status" = 0 ] || fail "$1" "status $status"
-  [ "$("$pbcomb" "$region" report </dev/null)" = "$once" ] || fail "$1" 'a request took effect twice, or not at all'
+  [ "$("$pbcomb" "$region" report </dev/null | grep -v '^rounds ')" = "$once" ] || fail "$1" 'a request took effect twice, or not at all'
 }
 
 # This builds the program where it isn't built yet.

@@ -4,7 +4,7 @@ use Rattle.pb_pmem.specs.Device.{Device}
 use Rattle.pb_object.specs.declared.kind.Kind.{Kind}
 use Rattle.pb_report.specs.OutcomeText.{outcomes_text}
 use Rattle.pb_script.specs.declared.command.Command.{Command}
-use Rattle.pb_script.specs.declared.command.Command.TheVariants.{Report, Replay}
+use Rattle.pb_script.specs.declared.command.Command.TheVariants.{Report, Replay, Drill}
 use Rattle.pb_script.specs.Command.{command_of}
 use Rattle.pb_broker.specs.declared.requests.Requests.{Requests}
 use Rattle.pb_broker.specs.declared.status.Status.{Status}
@@ -14,7 +14,7 @@ use Rattle.pb_broker.specs.Call.{Call, IsSameDevice, IsSaid}
 use Rattle.pb_broker.specs.Comes.{Comes}
 use Rattle.pb_broker.specs.Ending.{Stopped, Served}
 use Rattle.pb_broker.specs.Texts.{run_status, stop_text, stop_status}
-use Rattle.pb_broker.specs.Top.{IsReported, IsPlayed, IsAnswered}
+use Rattle.pb_broker.specs.Top.{IsReported, IsPlayed, IsDrilled, IsAnswered}
 use Rattle.pb_broker.specs.Source.{IsUnread}
 use Rattle.pb_broker.specs.Stream.{Stream}
 
@@ -59,4 +59,12 @@ reported words call out status is unread report = record {
   ending = report.ending;
   comes = subst (λ (c : Option Command). Comes c call report.ending) (sym is) (unread, report.comes);
   said = report.said;
+}
+
+-- a drill was run
+pub drilled : (words : List (List ℕ)) (seed clients count : ℕ) (call : Call) (out : Stream) (status : Status) → command_of words ≡ Some (Drill seed clients count) → IsUnread call.read → IsDrilled seed clients count call.before call.after out status → IsAnswered words call out status
+drilled words seed clients count call out status is unread drill = record {
+  ending = drill.ending;
+  comes = subst (λ (c : Option Command). Comes c call drill.ending) (sym is) (unread, drill.comes);
+  said = drill.said;
 }

@@ -1,5 +1,5 @@
 -- What is asked for is done.
-use Rattle.std.proofs.Common.{◌≡◌, ℕ, zero, suc, ◌≤◌, Bool, true, false, List, [], ◌∷◌, Option, Some, None, IfSome, length, take, drop, refl, sym, ap, subst, ◌∙◌, arith, inl, inr, length-append, rules}
+use Rattle.std.proofs.Common.{◌≡◌, ℕ, zero, suc, ◌<◌, ◌≤◌, Bool, true, false, List, [], ◌∷◌, Option, Some, None, IfSome, length, take, drop, refl, sym, ap, subst, ◌∙◌, arith, inl, inr, length-append, rules}
 use Rattle.std.specs.List.{Contains, list_any}
 use Rattle.std.specs.Io.KnownBytes.{Consumes}
 use Rattle.std.proofs.lemmas.List.{take-append-drop}
@@ -21,13 +21,15 @@ use Rattle.pb_script.specs.Command.{command_of}
 use Rattle.pb_script.specs.Script.{IsScript, IsRefused}
 use Rattle.pb_script.specs.Words.{lines}
 use Rattle.pb_script.proofs.Steps.{IsScript_front}
+use Rattle.pb_replay.specs.Replay.{HasTooManyEvents, HasBadEvent}
+use Rattle.pb_replay.proofs.OneReplay.{replayed_or_bad}
 use Rattle.pb_broker.specs.declared.source.TheConstants.{SOURCE_LIMIT}
 use Rattle.pb_broker.specs.declared.status.Status.{Status}
 use Rattle.pb_broker.specs.declared.stop.Stop.TheVariants.{Memory, Usage, ReadFault, Long, Many, Line as BadLine, DeviceFault, Taken, NoRegion, Damaged}
 use Rattle.pb_broker.specs.Call.{Call}
-use Rattle.pb_broker.specs.Comes.{HasTooMany, HasBadLine, TellsNoRegion, TellsDamage, Comes, ComesToReport}
-use Rattle.pb_broker.specs.Ending.{Ending, Stopped, Served, Reported, Replayed}
-use Rattle.pb_broker.specs.Laws.{TellsScript, TellsNone, TellsStanding, IsWellAsked, IsFaultless, Succeeds}
+use Rattle.pb_broker.specs.Comes.{HasTooMany, HasBadLine, TellsNoRegion, TellsDamage, Comes, ComesToReport, ComesToReplay, ComesToDrill}
+use Rattle.pb_broker.specs.Ending.{Ending, Stopped, Served, Drilled, Reported, Replayed}
+use Rattle.pb_broker.specs.Laws.{TellsScript, TellsNone, TellsStanding, TellsSchedule, IsWellAsked, IsFaultless, Succeeds}
 use Rattle.pb_broker.specs.Running.{AreCounted}
 use Rattle.pb_broker.specs.Texts.{run_status, ending_status}
 use Rattle.pb_broker.specs.Top.{IsAnswered}
@@ -40,6 +42,16 @@ pub here : {T : Type 0} (P : T → Type 0) (told : Option T) (value : T) → tol
 here P told value is holds = subst (λ o. IfSome o P) is holds
 
 -- The source
+
+pub long_consumed : {read : Stream} {bytes : List ℕ} → read.before ≡ Some bytes → IsLong read → SOURCE_LIMIT < length bytes
+long_consumed {read} {bytes} told long = by_left read.after (subst (λ (o : Option (List ℕ)). Consumes o read.after long.front) told long.taken)
+  where
+    by_left : (left : Option (List ℕ)) → Consumes (Some bytes) left long.front → SOURCE_LIMIT < length bytes
+    by_left None taken = absurd taken
+    by_left (Some rest) taken = omega (arith, ap length taken, length-append long.front rest, long.many)
+
+pub of_bytes : (Holds : List ℕ → Type 0) {read : Stream} {bytes : List ℕ} → read.before ≡ Some bytes → IsReadWhole Holds read → (length bytes ≤ SOURCE_LIMIT) × Holds bytes
+of_bytes Holds {read} {bytes} told whole = here (λ all. (length all ≤ SOURCE_LIMIT) × Holds all) read.before bytes told (content whole)
 
 not_long : {kind : Kind} {clients : ℕ} {read : Stream} → TellsScript kind clients read → IsLong read → ⊥
 not_long {kind} {clients} {read} script long = by_left read.after (subst (λ (o : Option (List ℕ)). Consumes o read.after long.front) script.told long.taken)
@@ -102,11 +114,12 @@ fresh_well head call out (Stopped ReadFault) status script none calm comes is = 
 fresh_well head call out (Stopped Long) status script none calm comes is = absurd (not_long script comes.0)
 fresh_well head call out (Stopped Many) status script none calm comes is = absurd (not_many script comes.0)
 fresh_well head call out (Stopped (BadLine number)) status script none calm comes is = absurd (not_bad script comes.0)
-fresh_well head call out (Stopped DeviceFault) status script none calm comes is = absurd (calm.device comes.stopped.rose)
+fresh_well head call out (Stopped DeviceFault) status script none calm comes is = absurd (calm.device comes.1.stopped.rose)
 fresh_well head call out (Stopped Taken) status script none calm comes is = absurd (none.none (here HasRegion call.before.now none.image none.told comes.1))
 fresh_well head call out (Stopped NoRegion) status script none calm comes is = absurd comes.0
 fresh_well head call out (Stopped (Damaged line)) status script none calm comes is = absurd comes.0
-fresh_well head call out (Served asks list) status script none calm comes is = served_well call.before.faults call.after.faults list status comes.run.counted calm.device is
+fresh_well head call out (Served asks list) status script none calm comes is = served_well call.before.faults call.after.faults list status comes.made.run.counted calm.device is
+fresh_well head call out (Drilled asks list versions) status script none calm comes is = absurd comes
 fresh_well head call out (Reported s) status script none calm comes is = absurd comes
 fresh_well head call out (Replayed answers s) status script none calm comes is = absurd comes
 
@@ -132,6 +145,7 @@ run_well s call out (Stopped Taken) status tells script calm comes is = absurd c
 run_well s call out (Stopped NoRegion) status tells script calm comes is = absurd (has_one tells comes.1)
 run_well s call out (Stopped (Damaged line)) status tells script calm comes is = absurd (is_sound line tells comes.1)
 run_well s call out (Served asks list) status tells script calm comes is = served_well call.before.faults call.after.faults list status comes.run.counted calm.device is
+run_well s call out (Drilled asks list versions) status tells script calm comes is = absurd comes
 run_well s call out (Reported t) status tells script calm comes is = absurd comes
 run_well s call out (Replayed answers t) status tells script calm comes is = absurd comes
 
@@ -147,8 +161,42 @@ report_well s call out (Stopped Taken) status tells calm comes is = absurd comes
 report_well s call out (Stopped NoRegion) status tells calm comes is = absurd (has_one tells comes.0)
 report_well s call out (Stopped (Damaged line)) status tells calm comes is = absurd (is_sound line tells comes.0)
 report_well s call out (Served asks list) status tells calm comes is = absurd comes
+report_well s call out (Drilled asks list versions) status tells calm comes is = absurd comes
 report_well s call out (Reported t) status tells calm comes is = inl is
 report_well s call out (Replayed answers t) status tells calm comes is = absurd comes
+
+drill_well : (seed clients count : ℕ) (call : Call) (out : Stream) (ending : Ending) (status : Status) → TellsNone call.before → IsFaultless call out → ComesToDrill seed clients count call.before call.after ending → status ≡ ending_status ending → Succeeds status
+drill_well seed clients count call out (Stopped Memory) status none calm comes is = inr (inr is)
+drill_well seed clients count call out (Stopped Usage) status none calm comes is = absurd comes
+drill_well seed clients count call out (Stopped ReadFault) status none calm comes is = absurd comes
+drill_well seed clients count call out (Stopped Long) status none calm comes is = absurd comes
+drill_well seed clients count call out (Stopped Many) status none calm comes is = absurd comes
+drill_well seed clients count call out (Stopped (BadLine number)) status none calm comes is = absurd comes
+drill_well seed clients count call out (Stopped DeviceFault) status none calm comes is = absurd (calm.device comes.stopped.rose)
+drill_well seed clients count call out (Stopped Taken) status none calm comes is = absurd (none.none (here HasRegion call.before.now none.image none.told comes.0))
+drill_well seed clients count call out (Stopped NoRegion) status none calm comes is = absurd comes
+drill_well seed clients count call out (Stopped (Damaged line)) status none calm comes is = absurd comes
+drill_well seed clients count call out (Served asks list) status none calm comes is = absurd comes
+drill_well seed clients count call out (Drilled asks list versions) status none calm comes is = served_well call.before.faults call.after.faults list status comes.made.run.counted calm.device is
+drill_well seed clients count call out (Reported t) status none calm comes is = absurd comes
+drill_well seed clients count call out (Replayed answers t) status none calm comes is = absurd comes
+
+replay_well : (head : Header) (call : Call) (out : Stream) (ending : Ending) (status : Status) → TellsSchedule head call.read → IsFaultless call out → ComesToReplay head call.read ending → status ≡ ending_status ending → Succeeds status
+replay_well head call out (Stopped Memory) status tells calm comes is = inr (inr is)
+replay_well head call out (Stopped Usage) status tells calm comes is = absurd comes
+replay_well head call out (Stopped ReadFault) status tells calm comes is = absurd (calm.reads comes.1)
+replay_well head call out (Stopped Long) status (answers, s, tells) calm comes is = absurd (omega (arith, tells.holds.0, long_consumed tells.told comes))
+replay_well head call out (Stopped Many) status (answers, s, tells) calm comes is = absurd (omega (arith, tells.holds.1.few, (of_bytes HasTooManyEvents tells.told comes).1))
+replay_well head call out (Stopped (BadLine number)) status (answers, s, tells) calm comes is =
+    absurd (replayed_or_bad head tells.bytes answers s number tells.holds.1 (of_bytes (HasBadEvent head number) tells.told comes).1)
+replay_well head call out (Stopped DeviceFault) status tells calm comes is = absurd comes
+replay_well head call out (Stopped Taken) status tells calm comes is = absurd comes
+replay_well head call out (Stopped NoRegion) status tells calm comes is = absurd comes
+replay_well head call out (Stopped (Damaged line)) status tells calm comes is = absurd comes
+replay_well head call out (Served asks list) status tells calm comes is = absurd comes
+replay_well head call out (Drilled asks list versions) status tells calm comes is = absurd comes
+replay_well head call out (Reported s) status tells calm comes is = absurd comes
+replay_well head call out (Replayed answers s) status tells calm comes is = inl is
 
 by_command : (command : Option Command) (call : Call) (out : Stream) (ending : Ending) (status : Status) → Comes command call ending → IsWellAsked command call → IsFaultless call out → status ≡ ending_status ending → Succeeds status
 by_command None call out ending status comes well calm is = absurd well
@@ -156,8 +204,8 @@ by_command (Some (Fresh kind clients size)) call out ending status comes well ca
     fresh_well (record { kind = kind; clients = clients; size = size }) call out ending status well.0 well.1 calm comes is
 by_command (Some Run) call out ending status comes well calm is = run_well well.0 call out ending status well.1 well.2 calm comes is
 by_command (Some Report) call out ending status comes well calm is = report_well well.0 call out ending status well.1 calm comes.1 is
-by_command (Some (Replay kind clients size)) call out ending status comes well calm is = absurd well
-by_command (Some (Drill seed clients count)) call out ending status comes well calm is = absurd well
+by_command (Some (Drill seed clients count)) call out ending status comes well calm is = drill_well seed clients count call out ending status well calm comes.1 is
+by_command (Some (Replay kind clients size)) call out ending status comes well calm is = replay_well (record { kind = kind; clients = clients; size = size }) call out ending status well calm comes.0 is
 
 pub done_as_asked : (words : List (List ℕ)) (call : Call) (out : Stream) (status : Status) → IsAnswered words call out status → IsWellAsked (command_of words) call → IsFaultless call out → Succeeds status
 done_as_asked words call out status answered well calm = elim answered.said [

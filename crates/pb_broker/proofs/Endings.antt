@@ -1,5 +1,5 @@
 -- What `fresh` and `run` come to, from their parts.
-use Rattle.std.proofs.Common.{◌≡◌, ℕ, ◌≤◌, List, [], ◌∷◌, ◌++◌, Option, Some, IfSome, IfOk, Result, Ok, Err, MatchResult, length, append_assoc, refl, sym, subst, ap, ◌∙◌, arith, inl, inr}
+use Rattle.std.proofs.Common.{◌≡◌, ◌⊎◌, ℕ, ◌≤◌, List, [], ◌∷◌, ◌++◌, Option, Some, IfSome, IfOk, IfErr, Result, Ok, Err, MatchResult, length, append_assoc, refl, sym, subst, ap, ◌∙◌, arith, inl, inr}
 use Rattle.std.proofs.KnownBytes.{Consumes-whole}
 use Rattle.pb_pmem.specs.declared.device.DeviceFault.{DeviceFault}
 use Rattle.pb_pmem.specs.declared.line.Line.{Line}
@@ -24,16 +24,15 @@ use Rattle.pb_pmem.proofs.OperationSteps.{stops_weaker}
 use Rattle.pb_engine.specs.Opening.{IsAdopted, IsFreshRefusal}
 use Rattle.pb_engine.specs.View.{EngineView, FailedRound, DeviceRepresents, settled_standing, was_called}
 use Rattle.pb_report.specs.declared.outcome.Outcome.{Outcome}
-use Rattle.pb_run.specs.Answer.{StaysUnsure}
 use Rattle.pb_broker.specs.declared.requests.Requests.{Requests}
 use Rattle.pb_broker.specs.declared.source.TheConstants.{SOURCE_LIMIT}
 use Rattle.pb_broker.specs.declared.stop.Stop.{Stop}
 use Rattle.pb_broker.specs.declared.stop.Stop.TheVariants.{Memory, Usage, ReadFault, Long, Many, Line as BadLine, DeviceFault as FailedDevice, Taken, NoRegion, Damaged}
 use Rattle.pb_broker.specs.Call.{Call}
-use Rattle.pb_broker.specs.Comes.{HasFew, HasBadLine, IsScriptOf, StopsFresh, ServesFresh, MakingIsCutOff, SettlingIsCutOff, IsNotOpened, StopsRun, ServesRun}
-use Rattle.pb_broker.specs.Serving.{ReadsFew, ServesNew, IsNotMade, StopsFound, ServesOn, StopsOn, OpensTo}
+use Rattle.pb_broker.specs.Comes.{HasFew, HasBadLine, IsScriptOf, StopsFresh, ServesFresh, ServesMade, MakingIsCutOff, SettlingIsCutOff, IsNotOpened, StopsRun, ServesRun}
+use Rattle.pb_broker.specs.Serving.{ReadsFew, ServesNew, IsNotMade, SettlesEngine, StaysUnsure, ServesFound, StopsFound, ServesOn, StopsOn, OpensTo}
 use Rattle.pb_broker.proofs.EmptyRecords.{made_by}
-use Rattle.pb_broker.proofs.Ran.{run_on_new, run_on_found}
+use Rattle.pb_broker.proofs.Ran.{nothing_run, run_on_new, run_on_found}
 use Rattle.pb_broker.specs.Source.{HasReadSome, IsReadWhole}
 use Rattle.pb_broker.specs.Stream.{IsSound, Stream}
 
@@ -88,30 +87,33 @@ cut_anywhere head first second ops (inr (inr late)) =
       ];
     }
 
-cut_making : (head : Header) (call : Call) (asks : List Ask) {fault : DeviceFault} → IsReadWhole (IsScriptOf head.kind head.clients asks) call.read → IsFreshRefusal head call.before call.after (DeviceWhy fault) → MakingIsCutOff head call
-cut_making head call asks {fault} script is = record {
-  script = (asks, script);
-  stopped = subst (λ (ops : List LogOp). Stops (IsFailedPrefix ops) call.before call.after) (made_by head (is.empty fault refl))
-      (stops_weaker (IsFailedFormat head is.first_lines is.second_lines) (IsFailedPrefix (format_ops head is.first_lines is.second_lines)) call.before call.after (cut_anywhere head is.first_lines is.second_lines) is.refusal.0.stops);
+pub cut_making : (head : Header) (before after : Device) {fault : DeviceFault} → IsFreshRefusal head before after (DeviceWhy fault) → MakingIsCutOff head before after
+cut_making head before after {fault} is = record {
+  stopped = subst (λ (ops : List LogOp). Stops (IsFailedPrefix ops) before after) (made_by head (is.empty fault refl))
+      (stops_weaker (IsFailedFormat head is.first_lines is.second_lines) (IsFailedPrefix (format_ops head is.first_lines is.second_lines)) before after (cut_anywhere head is.first_lines is.second_lines) is.refusal.0.stops);
   none = is.refusal.1;
   left = is.covers;
 }
 
+pub served_made : {head : Header} {before after : Device} {asks : List Ask} {list : List Outcome} → ServesNew head before after asks list → ServesMade head before after asks list
+served_made served = record { none = served.fresh.no_region; run = run_on_new served }
+
 fresh_stops : (head : Header) (call : Call) (stop : Stop) → (asks : List Ask) → IsReadWhole (IsScriptOf head.kind head.clients asks) call.read → IsNotMade head call.before call.after stop → StopsFresh head call stop
-fresh_stops head call Memory asks script is = (whole_stopped script, is)
+fresh_stops head call Memory asks script (inl is) = inl (whole_stopped script, is)
+fresh_stops head call Memory asks script (inr made) = inr ((asks, script), served_made made)
 fresh_stops head call Usage asks script is = absurd is
 fresh_stops head call ReadFault asks script is = absurd is
 fresh_stops head call Long asks script is = absurd is
 fresh_stops head call Many asks script is = absurd is
 fresh_stops head call (BadLine number) asks script is = absurd is
-fresh_stops head call FailedDevice asks script is = cut_making head call asks script is.1
+fresh_stops head call FailedDevice asks script is = ((asks, script), cut_making head call.before call.after is.1)
 fresh_stops head call Taken asks script is = ((asks, script), is.0, is.1)
 fresh_stops head call NoRegion asks script is = absurd is
 fresh_stops head call (Damaged line) asks script is = absurd is
 
 fresh_serves : (head : Header) (call : Call) (asks : List Ask) (list : List Outcome) → IsReadWhole (IsScriptOf head.kind head.clients asks) call.read → ServesNew head call.before call.after asks list → ServesFresh head call asks list
 fresh_serves head call asks list script served =
-    record { script = script; none = served.fresh.no_region; run = run_on_new served }
+    record { script = script; made = served_made served }
 
 pub fresh_by : (head : Header) (call : Call) (asks : List Ask) (served : Result Requests Stop) → IsReadWhole (IsScriptOf head.kind head.clients asks) call.read → IfOk served (λ s. s.asks.items ≡ asks) → MatchResult served (λ s. ServesNew head call.before call.after s.asks.items s.outcomes.items) (IsNotMade head call.before call.after) → MatchResult served (λ s. ServesFresh head call s.asks.items s.outcomes.items) (StopsFresh head call)
 fresh_by head call asks (Ok s) script same is =
@@ -121,7 +123,7 @@ fresh_by head call asks (Err stop) script same is = fresh_stops head call stop a
 -- `run`
 
 run_not_opened : (call : Call) (stop : Stop) → IsReadWhole HasFew call.read → IsNotOpened call.before call.after stop → StopsRun call stop
-run_not_opened call Memory few is = (whole_stopped few, is)
+run_not_opened call Memory few is = inl (whole_stopped few, is)
 run_not_opened call Usage few is = absurd is
 run_not_opened call ReadFault few is = absurd is
 run_not_opened call Long few is = absurd is
@@ -154,8 +156,17 @@ cut_off call {found} {now} {asks} replay adopted device script unsure =
           (unsure.covers.found (ap was_called adopted.doubt) tale members (ap (λ (d : Device). d.told) adopted.same ∙ told) ready (represented s call.before tale replay told adopted.stands));
     }
 
+run_memory : (call : Call) (bytes : List ℕ) (found now : EngineView) → IsAdopted call.before found → call.after ≡ now.device → ReadsFew call.read bytes → IsReplay call.before → (now ≡ found) ⊎ (((asks : List Ask) × IsScriptOf found.standing.kind found.standing.clients asks bytes) × SettlesEngine found now) → StopsRun call Memory
+run_memory call bytes found now adopted device few replay (inl same) = inl (whole_stopped (read_whole HasFew few few.short), unchanged adopted device same)
+run_memory call bytes found now adopted device few replay (inr settled) = inr (record {
+  standing = found.standing;
+  stands = adopted.stands;
+  script = (settled.0.0, read_whole (IsScriptOf found.standing.kind found.standing.clients settled.0.0) few settled.0.1);
+  run = run_on_found replay adopted settled.1 (nothing_run now settled.1.settled.doubt) device;
+})
+
 run_stops : (call : Call) (bytes : List ℕ) (stop : Stop) (opens : OpensTo call.before call.after (λ found now. StopsFound found.standing.kind found bytes now stop)) → ReadsFew call.read bytes → IsReplay call.before → StopsRun call stop
-run_stops call bytes Memory opens few replay = (whole_stopped (read_whole HasFew few few.short), unchanged opens.adopted opens.device opens.comes)
+run_stops call bytes Memory opens few replay = run_memory call bytes opens.found opens.now opens.adopted opens.device few replay opens.comes
 run_stops call bytes Usage opens few replay = absurd opens.comes
 run_stops call bytes ReadFault opens few replay = absurd opens.comes
 run_stops call bytes Long opens few replay = absurd opens.comes
@@ -191,3 +202,10 @@ pub run_by : (call : Call) (bytes : List ℕ) (served : Result Requests Stop) �
 run_by call bytes (Ok s) few replay is = run_serves call bytes s.asks.items s.outcomes.items is few replay
 run_by call bytes (Err stop) few replay (inl is) = run_not_opened call stop (read_whole HasFew few few.short) is
 run_by call bytes (Err stop) few replay (inr opens) = run_stops call bytes stop opens few replay
+
+-- requests were run on what was opened, or they weren't
+pub opened_to : {before after : Device} (bytes : List ℕ) (found now : EngineView) (served : Result Requests Stop) → IsAdopted before found → after ≡ now.device
+    → IfOk served (λ s. ServesFound found.standing.kind found bytes now s.asks.items s.outcomes.items) → IfErr served (StopsFound found.standing.kind found bytes now)
+    → MatchResult served (λ s. ServesOn bytes before after s.asks.items s.outcomes.items) (StopsOn bytes before after)
+opened_to bytes found now (Ok s) adopted device ok err = record { found = found; adopted = adopted; now = now; device = device; comes = ok }
+opened_to bytes found now (Err stop) adopted device ok err = inr (record { found = found; adopted = adopted; now = now; device = device; comes = err })

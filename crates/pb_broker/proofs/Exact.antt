@@ -20,33 +20,24 @@ use Rattle.pb_script.specs.Script.{IsScript, IsRefused, request_lines}
 use Rattle.pb_script.specs.Words.{lines}
 use Rattle.pb_script.specs.Schedule.{HasFewEvents}
 use Rattle.pb_script.proofs.Steps.{IsScript_front}
-use Rattle.pb_replay.specs.Replay.{HasTooManyEvents}
+use Rattle.pb_replay.specs.Replay.{HasTooManyEvents, IsReplayed, HasBadEvent}
+use Rattle.pb_replay.proofs.OneReplay.{one_bad_line, replayed_or_bad}
 use Rattle.pb_broker.specs.declared.source.TheConstants.{SOURCE_LIMIT}
 use Rattle.pb_broker.specs.declared.status.Status.{Status}
 use Rattle.pb_broker.specs.declared.stop.Stop.{Stop}
 use Rattle.pb_broker.specs.declared.stop.Stop.TheVariants.{Memory, Usage, ReadFault, Long, Many, Line as BadLine, DeviceFault, Taken, NoRegion, Damaged}
 use Rattle.pb_broker.specs.Call.{Call, Says}
-use Rattle.pb_broker.specs.Comes.{HasTooMany, HasFew, HasBadLine, IsScriptOf, Comes, ComesToReport, ComesToReplay}
-use Rattle.pb_broker.specs.Ending.{Ending, Stopped, Served, Reported, Replayed}
+use Rattle.pb_broker.specs.Comes.{HasTooMany, HasFew, HasBadLine, IsScriptOf, Comes, ComesToReport, ComesToReplay, ComesToDrill}
+use Rattle.pb_broker.specs.Ending.{Ending, Stopped, Served, Drilled, Reported, Replayed}
 use Rattle.pb_broker.specs.Laws.{TellsScript, TellsStanding, TellsBytes, TellsSource, TellsLines, IsTooLong, TellsCause, IsFaultless, SaysStop}
 use Rattle.pb_broker.specs.Texts.{ending_text, ending_status}
 use Rattle.pb_broker.specs.Top.{IsAnswered}
-use Rattle.pb_broker.proofs.Complete.{ComesFresh, ComesToRun, here, same_standing, has_one, is_sound}
+use Rattle.pb_broker.proofs.Complete.{ComesFresh, ComesToRun, here, same_standing, has_one, is_sound, long_consumed, of_bytes}
 use Rattle.pb_broker.proofs.Endings.{content, whole_weaker, script_is_few}
 use Rattle.pb_broker.specs.Source.{IsReadWhole, IsLong}
 use Rattle.pb_broker.specs.Stream.{Stream}
 
 -- The source
-
-long_consumed : {read : Stream} {bytes : List ℕ} → read.before ≡ Some bytes → IsLong read → SOURCE_LIMIT < length bytes
-long_consumed {read} {bytes} told long = by_left read.after (subst (λ (o : Option (List ℕ)). Consumes o read.after long.front) told long.taken)
-  where
-    by_left : (left : Option (List ℕ)) → Consumes (Some bytes) left long.front → SOURCE_LIMIT < length bytes
-    by_left None taken = absurd taken
-    by_left (Some rest) taken = omega (arith, ap length taken, length-append long.front rest, long.many)
-
-of_bytes : (Holds : List ℕ → Type 0) {read : Stream} {bytes : List ℕ} → read.before ≡ Some bytes → IsReadWhole Holds read → (length bytes ≤ SOURCE_LIMIT) × Holds bytes
-of_bytes Holds {read} {bytes} told whole = here (λ all. (length all ≤ SOURCE_LIMIT) × Holds all) read.before bytes told (content whole)
 
 too_long : {Holds : List ℕ → Type 0} {read : Stream} → TellsBytes IsTooLong read → IsReadWhole Holds read → ⊥
 too_long {Holds} tells whole = omega (arith, tells.holds, (of_bytes Holds tells.told whole).0)
@@ -123,11 +114,12 @@ fresh_long head call out (Stopped ReadFault) cause calm comes = absurd (calm.rea
 fresh_long head call out (Stopped Long) cause calm comes = inl refl
 fresh_long head call out (Stopped Many) cause calm comes = absurd (too_long cause comes.0)
 fresh_long head call out (Stopped (BadLine n)) cause calm comes = absurd (too_long cause comes.0)
-fresh_long head call out (Stopped DeviceFault) cause calm comes = absurd (calm.device comes.stopped.rose)
+fresh_long head call out (Stopped DeviceFault) cause calm comes = absurd (calm.device comes.1.stopped.rose)
 fresh_long head call out (Stopped Taken) cause calm comes = absurd (too_long cause comes.0.1)
 fresh_long head call out (Stopped NoRegion) cause calm comes = absurd comes.0
 fresh_long head call out (Stopped (Damaged l)) cause calm comes = absurd comes.0
 fresh_long head call out (Served asks list) cause calm comes = absurd (too_long cause comes.script)
+fresh_long head call out (Drilled asks list versions) cause calm comes = absurd comes
 fresh_long head call out (Reported t) cause calm comes = absurd comes
 fresh_long head call out (Replayed answers t) cause calm comes = absurd comes
 
@@ -138,11 +130,12 @@ fresh_many head call out (Stopped ReadFault) cause calm comes = absurd (calm.rea
 fresh_many head call out (Stopped Long) cause calm comes = absurd (not_long cause comes.0)
 fresh_many head call out (Stopped Many) cause calm comes = inl refl
 fresh_many head call out (Stopped (BadLine n)) cause calm comes = absurd (too_many cause (bad_is_few comes.0))
-fresh_many head call out (Stopped DeviceFault) cause calm comes = absurd (calm.device comes.stopped.rose)
+fresh_many head call out (Stopped DeviceFault) cause calm comes = absurd (calm.device comes.1.stopped.rose)
 fresh_many head call out (Stopped Taken) cause calm comes = absurd (too_many cause (script_is_few comes.0.1))
 fresh_many head call out (Stopped NoRegion) cause calm comes = absurd comes.0
 fresh_many head call out (Stopped (Damaged l)) cause calm comes = absurd comes.0
 fresh_many head call out (Served asks list) cause calm comes = absurd (too_many cause (script_is_few comes.script))
+fresh_many head call out (Drilled asks list versions) cause calm comes = absurd comes
 fresh_many head call out (Reported t) cause calm comes = absurd comes
 fresh_many head call out (Replayed answers t) cause calm comes = absurd comes
 
@@ -153,11 +146,12 @@ fresh_bad head call out (Stopped ReadFault) number cause calm comes = absurd (ca
 fresh_bad head call out (Stopped Long) number cause calm comes = absurd (not_long cause comes.0)
 fresh_bad head call out (Stopped Many) number cause calm comes = absurd (not_many (few_of (λ bytes is. is.0) cause) comes.0)
 fresh_bad head call out (Stopped (BadLine n)) number cause calm comes = inl (ap (λ k. Stopped (BadLine k)) (same_line cause comes.0))
-fresh_bad head call out (Stopped DeviceFault) number cause calm comes = absurd (calm.device comes.stopped.rose)
+fresh_bad head call out (Stopped DeviceFault) number cause calm comes = absurd (calm.device comes.1.stopped.rose)
 fresh_bad head call out (Stopped Taken) number cause calm comes = absurd (no_script cause comes.0.1)
 fresh_bad head call out (Stopped NoRegion) number cause calm comes = absurd comes.0
 fresh_bad head call out (Stopped (Damaged l)) number cause calm comes = absurd comes.0
 fresh_bad head call out (Served asks list) number cause calm comes = absurd (no_script cause comes.script)
+fresh_bad head call out (Drilled asks list versions) number cause calm comes = absurd comes
 fresh_bad head call out (Reported t) number cause calm comes = absurd comes
 fresh_bad head call out (Replayed answers t) number cause calm comes = absurd comes
 
@@ -168,11 +162,12 @@ fresh_taken head call out (Stopped ReadFault) cause calm comes = absurd (calm.re
 fresh_taken head call out (Stopped Long) cause calm comes = absurd (not_long (script_few cause.0) comes.0)
 fresh_taken head call out (Stopped Many) cause calm comes = absurd (not_many (script_few cause.0) comes.0)
 fresh_taken head call out (Stopped (BadLine n)) cause calm comes = absurd (not_bad cause.0 comes.0)
-fresh_taken head call out (Stopped DeviceFault) cause calm comes = absurd (calm.device comes.stopped.rose)
+fresh_taken head call out (Stopped DeviceFault) cause calm comes = absurd (calm.device comes.1.stopped.rose)
 fresh_taken head call out (Stopped Taken) cause calm comes = inl refl
 fresh_taken head call out (Stopped NoRegion) cause calm comes = absurd comes.0
 fresh_taken head call out (Stopped (Damaged l)) cause calm comes = absurd comes.0
-fresh_taken head call out (Served asks list) cause calm comes = absurd (told_lines HasRegion (λ image. ¬ HasRegion image) cause.1 comes.none cause.1.holds)
+fresh_taken head call out (Served asks list) cause calm comes = absurd (told_lines HasRegion (λ image. ¬ HasRegion image) cause.1 comes.made.none cause.1.holds)
+fresh_taken head call out (Drilled asks list versions) cause calm comes = absurd comes
 fresh_taken head call out (Reported t) cause calm comes = absurd comes
 fresh_taken head call out (Replayed answers t) cause calm comes = absurd comes
 
@@ -188,6 +183,7 @@ run_long call out (Stopped Taken) cause calm comes = absurd comes.0
 run_long call out (Stopped NoRegion) cause calm comes = absurd (too_long cause comes.0)
 run_long call out (Stopped (Damaged l)) cause calm comes = absurd (too_long cause comes.0)
 run_long call out (Served asks list) cause calm comes = absurd (too_long cause comes.script)
+run_long call out (Drilled asks list versions) cause calm comes = absurd comes
 run_long call out (Reported t) cause calm comes = absurd comes
 run_long call out (Replayed answers t) cause calm comes = absurd comes
 
@@ -203,6 +199,7 @@ run_many call out (Stopped Taken) cause calm comes = absurd comes.0
 run_many call out (Stopped NoRegion) cause calm comes = absurd (too_many cause comes.0)
 run_many call out (Stopped (Damaged l)) cause calm comes = absurd (too_many cause comes.0)
 run_many call out (Served asks list) cause calm comes = absurd (too_many cause (script_is_few comes.script))
+run_many call out (Drilled asks list versions) cause calm comes = absurd comes
 run_many call out (Reported t) cause calm comes = absurd comes
 run_many call out (Replayed answers t) cause calm comes = absurd comes
 
@@ -218,6 +215,7 @@ run_none call out (Stopped Taken) cause calm comes = absurd comes.0
 run_none call out (Stopped NoRegion) cause calm comes = inl refl
 run_none call out (Stopped (Damaged l)) cause calm comes = absurd (cause.1.holds (told_lines _ (λ image. IsDamagedAt image l) cause.1 comes.1).region)
 run_none call out (Served asks list) cause calm comes = absurd (cause.1.holds (has_region cause.1.image comes.standing (told_lines _ (λ image. Represents image comes.standing) cause.1 comes.stands)))
+run_none call out (Drilled asks list versions) cause calm comes = absurd comes
 run_none call out (Reported t) cause calm comes = absurd comes
 run_none call out (Replayed answers t) cause calm comes = absurd comes
 
@@ -233,6 +231,7 @@ run_damaged call out (Stopped Taken) number cause calm comes = absurd comes.0
 run_damaged call out (Stopped NoRegion) number cause calm comes = absurd (told_lines _ (λ image. ¬ HasRegion image) cause.1 comes.1 cause.1.holds.region)
 run_damaged call out (Stopped (Damaged l)) number cause calm comes = inl (ap (λ k. Stopped (Damaged k)) (one_damage cause.1.image l number (told_lines _ (λ image. IsDamagedAt image l) cause.1 comes.1) cause.1.holds))
 run_damaged call out (Served asks list) number cause calm comes = absurd (not_damaged cause.1.image comes.standing number (told_lines _ (λ image. Represents image comes.standing) cause.1 comes.stands) cause.1.holds)
+run_damaged call out (Drilled asks list versions) number cause calm comes = absurd comes
 run_damaged call out (Reported t) number cause calm comes = absurd comes
 run_damaged call out (Replayed answers t) number cause calm comes = absurd comes
 
@@ -248,6 +247,7 @@ run_bad call out (Stopped Taken) number s tells cause calm comes = absurd comes.
 run_bad call out (Stopped NoRegion) number s tells cause calm comes = absurd (has_one tells comes.1)
 run_bad call out (Stopped (Damaged l)) number s tells cause calm comes = absurd (is_sound l tells comes.1)
 run_bad call out (Served asks list) number s tells cause calm comes = absurd (no_script cause (subst (λ (u : Standing). IsReadWhole (IsScriptOf u.kind u.clients asks) call.read) (sym (same_standing tells comes.stands)) comes.script))
+run_bad call out (Drilled asks list versions) number s tells cause calm comes = absurd comes
 run_bad call out (Reported t) number s tells cause calm comes = absurd comes
 run_bad call out (Replayed answers t) number s tells cause calm comes = absurd comes
 
@@ -263,6 +263,7 @@ report_none call out (Stopped Taken) cause calm comes = absurd comes
 report_none call out (Stopped NoRegion) cause calm comes = inl refl
 report_none call out (Stopped (Damaged l)) cause calm comes = absurd (cause.holds (told_lines _ (λ image. IsDamagedAt image l) cause comes.0).region)
 report_none call out (Served asks list) cause calm comes = absurd comes
+report_none call out (Drilled asks list versions) cause calm comes = absurd comes
 report_none call out (Reported t) cause calm comes = absurd (cause.holds (has_region cause.image t (told_lines _ (λ image. Represents image t) cause comes.0)))
 report_none call out (Replayed answers t) cause calm comes = absurd comes
 
@@ -278,6 +279,7 @@ report_damaged call out (Stopped Taken) number cause calm comes = absurd comes
 report_damaged call out (Stopped NoRegion) number cause calm comes = absurd (told_lines _ (λ image. ¬ HasRegion image) cause comes.0 cause.holds.region)
 report_damaged call out (Stopped (Damaged l)) number cause calm comes = inl (ap (λ k. Stopped (Damaged k)) (one_damage cause.image l number (told_lines _ (λ image. IsDamagedAt image l) cause comes.0) cause.holds))
 report_damaged call out (Served asks list) number cause calm comes = absurd comes
+report_damaged call out (Drilled asks list versions) number cause calm comes = absurd comes
 report_damaged call out (Reported t) number cause calm comes = absurd (not_damaged cause.image t number (told_lines _ (λ image. Represents image t) cause comes.0) cause.holds)
 report_damaged call out (Replayed answers t) number cause calm comes = absurd comes
 
@@ -296,6 +298,7 @@ replay_long head call out (Stopped Taken) cause calm comes = absurd comes
 replay_long head call out (Stopped NoRegion) cause calm comes = absurd comes
 replay_long head call out (Stopped (Damaged l)) cause calm comes = absurd comes
 replay_long head call out (Served asks list) cause calm comes = absurd comes
+replay_long head call out (Drilled asks list versions) cause calm comes = absurd comes
 replay_long head call out (Reported t) cause calm comes = absurd comes
 replay_long head call out (Replayed answers t) cause calm comes = absurd (too_long cause comes)
 
@@ -311,8 +314,43 @@ replay_many head call out (Stopped Taken) cause calm comes = absurd comes
 replay_many head call out (Stopped NoRegion) cause calm comes = absurd comes
 replay_many head call out (Stopped (Damaged l)) cause calm comes = absurd comes
 replay_many head call out (Served asks list) cause calm comes = absurd comes
+replay_many head call out (Drilled asks list versions) cause calm comes = absurd comes
 replay_many head call out (Reported t) cause calm comes = absurd comes
 replay_many head call out (Replayed answers t) cause calm comes = absurd (too_many_events cause (whole_weaker (λ bytes is. is.few) comes))
+
+drill_taken : (seed clients count : ℕ) (call : Call) (out : Stream) (ending : Ending) → TellsLines HasRegion call.before → IsFaultless call out → ComesToDrill seed clients count call.before call.after ending → Decides ending Taken
+drill_taken seed clients count call out (Stopped Memory) cause calm comes = inr refl
+drill_taken seed clients count call out (Stopped Usage) cause calm comes = absurd comes
+drill_taken seed clients count call out (Stopped ReadFault) cause calm comes = absurd comes
+drill_taken seed clients count call out (Stopped Long) cause calm comes = absurd comes
+drill_taken seed clients count call out (Stopped Many) cause calm comes = absurd comes
+drill_taken seed clients count call out (Stopped (BadLine n)) cause calm comes = absurd comes
+drill_taken seed clients count call out (Stopped DeviceFault) cause calm comes = absurd (calm.device comes.stopped.rose)
+drill_taken seed clients count call out (Stopped Taken) cause calm comes = inl refl
+drill_taken seed clients count call out (Stopped NoRegion) cause calm comes = absurd comes
+drill_taken seed clients count call out (Stopped (Damaged l)) cause calm comes = absurd comes
+drill_taken seed clients count call out (Served asks list) cause calm comes = absurd comes
+drill_taken seed clients count call out (Drilled asks list versions) cause calm comes = absurd (told_lines HasRegion (λ image. ¬ HasRegion image) cause comes.made.none cause.holds)
+drill_taken seed clients count call out (Reported t) cause calm comes = absurd comes
+drill_taken seed clients count call out (Replayed answers t) cause calm comes = absurd comes
+
+replay_bad : (head : Header) (call : Call) (out : Stream) (ending : Ending) (number : ℕ) → TellsSource (HasBadEvent head number) call.read → IsFaultless call out → ComesToReplay head call.read ending → Decides ending (BadLine number)
+replay_bad head call out (Stopped Memory) number cause calm comes = inr refl
+replay_bad head call out (Stopped Usage) number cause calm comes = absurd comes
+replay_bad head call out (Stopped ReadFault) number cause calm comes = absurd (calm.reads comes.1)
+replay_bad head call out (Stopped Long) number cause calm comes = absurd (not_long cause comes)
+replay_bad head call out (Stopped Many) number cause calm comes = absurd (omega (arith, cause.holds.1.0, (of_bytes HasTooManyEvents cause.told comes).1))
+replay_bad head call out (Stopped (BadLine n)) number cause calm comes =
+    inl (ap (λ k. Stopped (BadLine k)) (one_bad_line head cause.bytes n number (of_bytes (HasBadEvent head n) cause.told comes).1 cause.holds.1))
+replay_bad head call out (Stopped DeviceFault) number cause calm comes = absurd comes
+replay_bad head call out (Stopped Taken) number cause calm comes = absurd comes
+replay_bad head call out (Stopped NoRegion) number cause calm comes = absurd comes
+replay_bad head call out (Stopped (Damaged l)) number cause calm comes = absurd comes
+replay_bad head call out (Served asks list) number cause calm comes = absurd comes
+replay_bad head call out (Drilled asks list versions) number cause calm comes = absurd comes
+replay_bad head call out (Reported t) number cause calm comes = absurd comes
+replay_bad head call out (Replayed answers t) number cause calm comes =
+    absurd (replayed_or_bad head cause.bytes answers t number (of_bytes (λ bytes. IsReplayed head bytes answers t) cause.told comes).1 cause.holds.1)
 
 by_cause : (command : Option Command) (call : Call) (out : Stream) (ending : Ending) (stop : Stop) → TellsCause command call stop → IsFaultless call out → Comes command call ending → Decides ending stop
 by_cause None call out ending Memory cause calm comes = absurd cause
@@ -360,19 +398,19 @@ by_cause (Some (Replay kind clients size)) call out ending Usage cause calm come
 by_cause (Some (Replay kind clients size)) call out ending ReadFault cause calm comes = absurd cause
 by_cause (Some (Replay kind clients size)) call out ending Long cause calm comes = replay_long (record { kind = kind; clients = clients; size = size }) call out ending cause calm comes.0
 by_cause (Some (Replay kind clients size)) call out ending Many cause calm comes = replay_many (record { kind = kind; clients = clients; size = size }) call out ending cause calm comes.0
-by_cause (Some (Replay kind clients size)) call out ending (BadLine number) cause calm comes = absurd cause
+by_cause (Some (Replay kind clients size)) call out ending (BadLine number) cause calm comes = replay_bad (record { kind = kind; clients = clients; size = size }) call out ending number cause calm comes.0
 by_cause (Some (Replay kind clients size)) call out ending DeviceFault cause calm comes = absurd cause
 by_cause (Some (Replay kind clients size)) call out ending Taken cause calm comes = absurd cause
 by_cause (Some (Replay kind clients size)) call out ending NoRegion cause calm comes = absurd cause
 by_cause (Some (Replay kind clients size)) call out ending (Damaged number) cause calm comes = absurd cause
 by_cause (Some (Drill seed clients count)) call out ending Memory cause calm comes = absurd cause
-by_cause (Some (Drill seed clients count)) call out ending Usage cause calm comes = inl comes.0
+by_cause (Some (Drill seed clients count)) call out ending Usage cause calm comes = absurd cause
 by_cause (Some (Drill seed clients count)) call out ending ReadFault cause calm comes = absurd cause
 by_cause (Some (Drill seed clients count)) call out ending Long cause calm comes = absurd cause
 by_cause (Some (Drill seed clients count)) call out ending Many cause calm comes = absurd cause
 by_cause (Some (Drill seed clients count)) call out ending (BadLine number) cause calm comes = absurd cause
 by_cause (Some (Drill seed clients count)) call out ending DeviceFault cause calm comes = absurd cause
-by_cause (Some (Drill seed clients count)) call out ending Taken cause calm comes = absurd cause
+by_cause (Some (Drill seed clients count)) call out ending Taken cause calm comes = drill_taken seed clients count call out ending cause calm comes.1
 by_cause (Some (Drill seed clients count)) call out ending NoRegion cause calm comes = absurd cause
 by_cause (Some (Drill seed clients count)) call out ending (Damaged number) cause calm comes = absurd cause
 

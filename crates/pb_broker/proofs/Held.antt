@@ -33,14 +33,12 @@ use Rattle.pb_layout_laws.proofs.Histories.{rounds_in-append, state_after-append
 use Rattle.pb_engine.specs.Good.{sync_count}
 use Rattle.pb_engine.proofs.Costs.{settling_syncs, syncs-append}
 use Rattle.pb_report.specs.declared.outcome.Outcome.{Outcome}
-use Rattle.pb_script.specs.declared.command.Command.{Command}
-use Rattle.pb_script.specs.declared.command.Command.TheVariants.{Fresh}
 use Rattle.pb_script.specs.Command.{command_of}
-use Rattle.pb_broker.specs.Chain.{Point, Called, Step, handed, crashed, Steps, IsHandedBack, IsCrashed, IsBehind, begun_by, first_behind, rounds_behind}
-use Rattle.pb_broker.specs.Ending.{Ending, Served}
+use Rattle.pb_broker.specs.Chain.{Point, Called, Step, handed, crashed, Steps, IsHandedBack, IsCrashed, IsBehind, HasRequests, begun_by, first_behind, rounds_behind}
+use Rattle.pb_broker.specs.Ending.{Ending, Stopped, Served, Drilled, Reported, Replayed}
 use Rattle.pb_broker.specs.Running.{IsLogged, empty_record, making_ops}
 use Rattle.pb_broker.proofs.Behind.{images_at, after_is, rounds_are}
-use Rattle.pb_broker.proofs.Cases.{case_of, HasServed, Made, Ran, same, made, failed, ran, cut}
+use Rattle.pb_broker.proofs.Cases.{case_of, Made, Ran, same, made, failed, ran, cut}
 use Rattle.pb_broker.proofs.Making.{making_syncs}
 use Rattle.pb_broker.proofs.Points.{IsLeft, IsRegionPoint, IsSound, legal_behind, legal_front}
 use Rattle.pb_broker.proofs.Steps.{step_sound, found_is, no_region_found, region_found, empty_keeps, first_same, same_rounds, same_image, same_tale}
@@ -253,8 +251,9 @@ pub record IsServedIn (s t : Standing) (before : Point) (called : Called before.
   pub keeps : KeepsAll s
   pub legal : IsLegal s before.rounds
   pub lists : HasKeptLists t
+  pub known : History
   pub first_ops : List LogOp
-  pub logged : IsLogged t first_ops asks list before.tale called.call.after
+  pub logged : IsLogged known t first_ops asks list before.tale called.call.after
   pub synced : sync_count first_ops ≡ 1
 
 module _ (Holds : History → Type 0) (s t : Standing) (before : Point) (called : Called before.tale) (asks : List Ask) (list : List Outcome) (served : IsServedIn s t before called asks list) (holds : (kept lost : List LoggedRound) → served.logged.history ≡ kept ++ lost → AreUnsealed lost → Holds (before.rounds ++ rounds_in kept)) where
@@ -302,56 +301,57 @@ module _ (Holds : History → Type 0) (s t : Standing) (before : Point) (called 
       told : rounds_behind before called ≡ before.rounds ++ rounds_in served.logged.history
       told = ap (λ (h : History). before.rounds ++ h) (rounds_are before.tale called.after t [] served.logged.history served.logged.members called.call.after called.ends served.logged.left)
 
-served_asks : {a b : List Ask} {l m : List Outcome} → Served a l ≡ Served b m → a ≡ b
-served_asks is = cc (is)
-
-served_list : {a b : List Ask} {l m : List Outcome} → Served a l ≡ Served b m → l ≡ m
-served_list is = cc (is)
+as_run : {a asks other_asks : List Ask} {l list other_list : List Outcome} {line : Ask × Outcome} → (a ≡ asks) × (l ≡ list) → (a ≡ other_asks) × (l ≡ other_list) → Contains (zip other_asks other_list) line → Contains (zip asks list) line
+as_run {a} {asks} {other_asks} {l} {list} {other_list} {line} has other there =
+    subst (λ (m : List Outcome). Contains (zip asks m) line) (sym other.1 ∙ has.1) (subst (λ (b : List Ask). Contains (zip b other_list) line) (sym other.0 ∙ has.0) there)
 
 -- a line of the script that was run
-pub same_line : (ending : Ending) (asks other_asks : List Ask) (list other_list : List Outcome) (line : Ask × Outcome) → ending ≡ Served asks list → ending ≡ Served other_asks other_list → Contains (zip other_asks other_list) line → Contains (zip asks list) line
-same_line ending asks other_asks list other_list line served other there =
-    let is : Served other_asks other_list ≡ Served asks list = sym other ∙ served in
-    subst (λ (l : List Outcome). Contains (zip asks l) line) (served_list is) (subst (λ (a : List Ask). Contains (zip a other_list) line) (served_asks is) there)
+pub same_line : (ending : Ending) (asks other_asks : List Ask) (list other_list : List Outcome) (line : Ask × Outcome) → HasRequests ending asks list → HasRequests ending other_asks other_list → Contains (zip other_asks other_list) line → Contains (zip asks list) line
+same_line (Stopped stop) asks other_asks list other_list line has other there = absurd has
+same_line (Served a l) asks other_asks list other_list line has other there = as_run has other there
+same_line (Drilled a l versions) asks other_asks list other_list line has other there = as_run has other there
+same_line (Reported s) asks other_asks list other_list line has other there = absurd has
+same_line (Replayed answers s) asks other_asks list other_list line has other there = absurd has
 
 -- a call that ran requests
 pub record IsServing (before : Point) (called : Called before.tale) : Type 1 where
   pub asks : List Ask
   pub list : List Outcome
-  pub ending : called.answered.ending ≡ Served asks list
+  pub ending : HasRequests called.answered.ending asks list
   pub s : Standing
   pub t : Standing
   pub served : IsServedIn s t before called asks list
 
 module _ (before : Point) (called : Called before.tale) where
-  made_serves : IsSound before → Made (command_of called.words) called.call called.answered.ending → IsServing before called
-  made_serves (inr (s, is)) was = absurd (no_region_found before called s is was.serves.none)
-  made_serves (inl is) was = record {
+  made_serves : IsSound before → (was : Made (command_of called.words) called.call called.answered.ending) → HasRequests called.answered.ending was.asks was.list → IsServing before called
+  made_serves (inr (s, is)) was some = absurd (no_region_found before called s is was.serves.none)
+  made_serves (inl is) was some = record {
     asks = was.asks;
     list = was.list;
-    ending = was.served;
+    ending = some;
     s = empty_for was.head;
     t = empty_for was.head;
     served = record {
-      first = ap (λ (c : Option Command). begun_by c before.first) was.is ∙ ap (begun_by (Some (Fresh was.head.kind was.head.clients was.head.size))) is.first;
+      first = ap (begun_by (command_of called.words)) is.first ∙ was.is;
       is = sym (ap (state_after (empty_for was.head)) is.rounds);
       keeps = empty_keeps was.head;
       legal = subst (IsLegal (empty_for was.head)) (sym is.rounds) tt;
       lists = fresh_kept_lists was.head.kind was.head.clients was.head.size;
+      known = was.serves.run.history;
       first_ops = making_ops was.head;
       logged = was.serves.run.logged before.tale called.begins is.ready;
       synced = making_syncs was.head (empty_record was.head) (if side_count was.head.kind == 2 then empty_record was.head else []);
     };
   }
 
-  ran_serves : IsSound before → Ran called.call called.answered.ending → IsServing before called
-  ran_serves (inl is) was = absurd (region_found before called was.serves.standing is was.serves.stands)
-  ran_serves (inr (s, is)) was =
+  ran_serves : IsSound before → (was : Ran called.call called.answered.ending) → HasRequests called.answered.ending was.asks was.list → IsServing before called
+  ran_serves (inl is) was some = absurd (region_found before called was.serves.standing is was.serves.stands)
+  ran_serves (inr (s, is)) was some =
       let found = found_is before called s was.serves.standing is was.serves.stands in
       record {
         asks = was.asks;
         list = was.list;
-        ending = was.served;
+        ending = some;
         s = s;
         t = was.serves.standing;
         served = record {
@@ -360,17 +360,22 @@ module _ (before : Point) (called : Called before.tale) where
           keeps = is.region.keeps;
           legal = is.region.legal;
           lists = region_keeps_lists (contents_of before.tale) was.serves.standing (subst (Represents (contents_of before.tale)) (sym found) is.region.holds);
+          known = was.serves.run.history;
           first_ops = settle_to (header_for was.serves.standing) was.serves.standing;
           logged = was.serves.run.logged before.tale called.begins is.region.ready;
           synced = settling_syncs (header_for was.serves.standing) (rounds_of was.serves.standing 0) (rounds_of was.serves.standing 1);
         };
       }
 
-  pub serving : IsSound before → HasServed called.answered.ending → IsServing before called
-  serving sound some = elim (case_of (command_of called.words) called.call called.answered.ending called.answered.comes) [
-    | same stays idle ↦ absurd (idle some)
-    | made was ↦ made_serves sound was
-    | failed was idle ↦ absurd (idle some)
-    | ran was ↦ ran_serves sound was
-    | cut was idle ↦ absurd (idle some)
+  these : (asks : List Ask) (list : List Outcome) (own : List Ask) (own_list : List Outcome) → HasRequests called.answered.ending asks list → (asks ≡ own) × (list ≡ own_list) → HasRequests called.answered.ending own own_list
+  these asks list own own_list some are =
+      subst (HasRequests called.answered.ending own) are.1 (subst (λ (a : List Ask). HasRequests called.answered.ending a list) are.0 some)
+
+  pub serving : (asks : List Ask) (list : List Outcome) → IsSound before → HasRequests called.answered.ending asks list → IsServing before called
+  serving asks list sound some = elim (case_of (command_of called.words) called.call called.answered.ending called.answered.comes) [
+    | same stays idle ↦ absurd (idle asks list some)
+    | made was ↦ made_serves sound was (these asks list was.asks was.list some (was.tells asks list some))
+    | failed was idle ↦ absurd (idle asks list some)
+    | ran was ↦ ran_serves sound was (these asks list was.asks was.list some (was.tells asks list some))
+    | cut was idle ↦ absurd (idle asks list some)
   ]

@@ -5,6 +5,7 @@ pub mod Bytes
 pub mod Cases
 pub mod Complete
 pub mod Counts
+pub mod Drills
 pub mod EmptyRecords
 pub mod Endings
 pub mod Exact

@@ -1,5 +1,5 @@
 -- What the log tells of requests that were run over an engine.
-use Rattle.std.proofs.Common.{◌≡◌, ◌⊎◌, ℕ, ◌+◌, ◌<◌, Bool, true, false, cond, List, [], ◌∷◌, ◌++◌, length, get_or, Option, Some, None, refl, sym, ap, subst, ◌∙◌, arith, inl, inr, zero, suc, IfSome}
+use Rattle.std.proofs.Common.{◌≡◌, ◌⊎◌, ℕ, ◌+◌, ◌<◌, Bool, true, false, cond, List, [], ◌∷◌, ◌++◌, length, get_or, Option, Some, None, refl, sym, ap, subst, ◌∙◌, arith, inl, inr, zero, suc, IfSome, option_map, ◌≤◌}
 use Rattle.std.specs.List.{Contains, count_by, filter, zip}
 use Rattle.std.proofs.lemmas.List.{append_cancel_left, get_or_append_left, length-append, length-map, append-nil, take_all}
 use Rattle.std.proofs.lemmas.Option.{same_Some}
@@ -13,15 +13,16 @@ use Rattle.pb_layout.specs.Doubt.{either_state, IsRoundInDoubt, HasRoundLanded}
 use Rattle.pb_layout.specs.Exits.{HasOneUnsealedAtMost}
 use Rattle.pb_layout.specs.LogHistory.{LoggedRound, rounds_in, round_of, AreSealed, history_of}
 use Rattle.pb_layout.specs.ToldExits.{IsCoveredExit, IsSealedAfter}
+use Rattle.pb_engine.specs.Calls.{Progress, progress_of, with_doubt, settled_rounds, after_calls, AreCalls, all_ops, HasCalled}
 use Rattle.pb_engine.specs.Good.{fence_count, sync_count, settlings, BeginsAt, IsCovered, IsDecidedAfter, IsInDoubtAfter, IsStillFound, HasCome}
 use Rattle.pb_engine.specs.View.{EngineView, FailedRound, was_called}
 use Rattle.pb_layout_laws.proofs.ToldCalls.{from_told}
 use Rattle.pb_core.proofs.Histories.{legal-push}
 use Rattle.pb_report.specs.declared.outcome.Outcome.{Outcome}
 use Rattle.pb_report.specs.Outcomes.{Outcomes, HasEntry, entry_of}
-use Rattle.pb_run.specs.Run.{HasRun, is_doubt, AreNewRecorded, rounds_in_doubt}
+use Rattle.pb_run.specs.Run.{HasRun, is_doubt, AreNewRecorded}
 use Rattle.pb_broker.proofs.Counts.{fences_counted, syncs_counted}
-use Rattle.pb_broker.specs.Running.{Explains, NoneInDoubt, IsCalmRun, IsLogged}
+use Rattle.pb_broker.specs.Running.{Explains, NoneInDoubt, IsCalmRun, IsWork, IsLogged}
 
 -- Rounds by their places
 
@@ -106,20 +107,32 @@ pub record IsRunSince (first start : EngineView) (asks : List Ask) (now : Engine
   pub decided : start.doubt ≡ None
   pub first_decided : first.doubt ≡ None
 
+pub rounds_most : (rounds : History) (doubt : Option FailedRound) → length rounds ≤ length (settled_rounds rounds doubt)
+rounds_most rounds None = omega arith
+rounds_most rounds (Some failed) = by_called failed.called failed.round
+  where
+    by_called : (called : Bool) (round : Round) → length rounds ≤ length (with_doubt called rounds round)
+    by_called true round = omega (arith, length-append rounds (round ∷ []))
+    by_called false round = omega arith
+
+with_called : (rounds : History) (doubt : Option FailedRound) (failed : FailedRound) → doubt ≡ Some failed → failed.called ≡ true → settled_rounds rounds doubt ≡ rounds ++ failed.round ∷ []
+with_called rounds doubt failed is called =
+    ap (settled_rounds rounds) is ∙ ap (λ (b : Bool). with_doubt b rounds failed.round) called
+
 -- the rounds explain the outcomes
 pub rounds_explain : {first start now : EngineView} {asks : List Ask} {list : List Outcome} (since : IsRunSince first start asks now list) → Explains since.run.rounds first.standing asks list
 rounds_explain {first} {start} {now} {asks} {list} since = record {
   legal = since.come.legal;
   outcomes = subst (λ (s : Standing). Outcomes s since.run.rounds asks list) since.same since.run.outcomes;
-  few = omega (arith, since.run.few);
+  few = omega (arith, since.run.few, rounds_most since.run.rounds now.doubt);
 }
 
 -- so do these and the one in doubt
-with_doubt_explain : {first start now : EngineView} {asks : List Ask} {list : List Outcome} (since : IsRunSince first start asks now list) (failed : FailedRound) → now.doubt ≡ Some failed → IsLegalRound (state_after first.standing since.run.rounds) failed.round → Explains (since.run.rounds ++ failed.round ∷ []) first.standing asks list
-with_doubt_explain {first} {start} {now} {asks} {list} since failed is legal = record {
+with_doubt_explain : {first start now : EngineView} {asks : List Ask} {list : List Outcome} (since : IsRunSince first start asks now list) (failed : FailedRound) → now.doubt ≡ Some failed → failed.called ≡ true → IsLegalRound (state_after first.standing since.run.rounds) failed.round → Explains (since.run.rounds ++ failed.round ∷ []) first.standing asks list
+with_doubt_explain {first} {start} {now} {asks} {list} since failed is called legal = record {
   legal = legal-push first.standing since.run.rounds failed.round since.come.legal legal;
-  outcomes = subst (λ (s : Standing). Outcomes s (since.run.rounds ++ failed.round ∷ []) asks list) since.same (since.run.in_doubt failed is);
-  few = omega (arith, since.run.few, ap rounds_in_doubt is, length-append since.run.rounds (failed.round ∷ []));
+  outcomes = subst (λ (s : Standing). Outcomes s (since.run.rounds ++ failed.round ∷ []) asks list) since.same (subst (λ (h : History). Outcomes start.standing h asks list) (with_called since.run.rounds now.doubt failed is called) since.run.settled);
+  few = omega (arith, since.run.few, ap length (with_called since.run.rounds now.doubt failed is called));
 }
 
 -- where no line is in doubt the engine is sure
@@ -140,37 +153,55 @@ settled_with {first} {start} {now} since tale history left told sealed are calm 
       syncs = omega (arith, syncs_counted left.ops, ap sync_count same, cost.syncs, ap (λ (b : Bool). settlings b now.sure) since.first_sure, many);
     }
 
+-- its operations are those of the engine's calls
+worked : {first start now : EngineView} {asks : List Ask} {list : List Outcome} (since : IsRunSince first start asks now list) (tale : Tale) (ops : List LogOp) → first.device.told ≡ Some tale → now.device.told ≡ Some (with_ops ops tale) → IsWork first.standing since.run.rounds list ops
+worked {first} {start} {now} {asks} {list} since tale ops told left = record {
+  calls = called.calls;
+  are = subst (λ (p : Progress). AreCalls first.standing p called.calls) begun called.are;
+  ops_are = same_ops tale now.device.told ops (all_ops called.calls) left (called.told ∙ ap (option_map (with_ops (all_ops called.calls))) told);
+  recorded = ap (λ (p : Progress). p.rounds) (ap (λ (p : Progress). after_calls p called.calls) (sym begun) ∙ called.come);
+  failed = called.failed;
+}
+  where
+    called : HasCalled first now since.run.rounds (count_by is_doubt list)
+    called = since.come.called
+
+    begun : progress_of [] first ≡ record { rounds = []; sure = true; doubt = None }
+    begun = λ i. record { rounds = []; sure = since.first_sure i; doubt = since.first_decided i }
+
 -- the rounds are told and sealed
-logged_sealed : {first start now : EngineView} {asks : List Ask} {list : List Outcome} (since : IsRunSince first start asks now list) (tale : Tale) → first.device.told ≡ Some tale → IsSealedAfter tale now.device first.standing since.run.rounds → IsLogged first.standing [] asks list tale now.device
+logged_sealed : {first start now : EngineView} {asks : List Ask} {list : List Outcome} (since : IsRunSince first start asks now list) (tale : Tale) → first.device.told ≡ Some tale → IsSealedAfter tale now.device first.standing since.run.rounds → IsLogged since.run.rounds first.standing [] asks list tale now.device
 logged_sealed {first} {start} {now} {asks} {list} since tale told after = record {
   history = after.history;
   members = Some (state_after first.standing since.run.rounds) ∷ [];
   left = after.left;
   more = after.left.ops;
   parts = refl;
-  around = inl (ap (λ (h : History). Some (state_after first.standing h) ∷ []) (sym after.rounds_are));
+  work = worked since tale after.left.ops told after.left.told;
+  around = inl (after.rounds_are, refl);
   explained = subst (λ (h : History). Explains h first.standing asks list) (sym after.rounds_are) (rounds_explain since);
   new_sealed = first_sealed since.run.rounds after.history [] asks list (after.rounds_are ∙ sym (append-nil since.run.rounds)) (λ place inside. sealed_by_place after.history place after.sealed (omega (arith, inside, as_many after.history, ap length after.rounds_are))) since.run.recorded;
   calm = settled_with since tale after.history after.left told after.sealed after.rounds_are;
 }
 
 -- nothing was settled yet, and no request was served
-logged_found : {first start now : EngineView} {asks : List Ask} {list : List Outcome} (since : IsRunSince first start asks now list) (tale : Tale) → now.sure ≡ false → since.run.rounds ≡ [] → IsStillFound tale (Some first.standing ∷ []) now.device first.standing → IsLogged first.standing [] asks list tale now.device
-logged_found {first} {start} {now} {asks} {list} since tale unsure none still = record {
+logged_found : {first start now : EngineView} {asks : List Ask} {list : List Outcome} (since : IsRunSince first start asks now list) (tale : Tale) → first.device.told ≡ Some tale → now.sure ≡ false → since.run.rounds ≡ [] → IsStillFound tale (Some first.standing ∷ []) now.device first.standing → IsLogged since.run.rounds first.standing [] asks list tale now.device
+logged_found {first} {start} {now} {asks} {list} since tale told unsure none still = record {
   history = [];
   members = Some first.standing ∷ [];
   left = still.left;
   more = still.left.ops;
   parts = refl;
-  around = inl refl;
+  work = worked since tale still.left.ops told still.left.told;
+  around = inl (sym none, ap (λ (h : History). Some (state_after first.standing h) ∷ []) (sym none));
   explained = subst (λ (h : History). Explains h first.standing asks list) none (rounds_explain since);
   new_sealed = first_sealed [] [] [] asks list refl (λ place inside. absurd (omega (arith, inside))) (subst (λ (h : History). AreNewRecorded h (zip asks list)) none since.run.recorded);
   calm = λ calm. absurd (cc ((calm_is_sure since calm).0, unsure));
 }
 
 -- a round is in doubt after them
-logged_in_doubt : {first start now : EngineView} {asks : List Ask} {list : List Outcome} (since : IsRunSince first start asks now list) (tale : Tale) (failed : FailedRound) → now.doubt ≡ Some failed → IsInDoubtAfter tale now.device first.standing since.run.rounds failed.round → IsLogged first.standing [] asks list tale now.device
-logged_in_doubt {first} {start} {now} {asks} {list} since tale failed is after = by_state after.state
+logged_in_doubt : {first start now : EngineView} {asks : List Ask} {list : List Outcome} (since : IsRunSince first start asks now list) (tale : Tale) (failed : FailedRound) → first.device.told ≡ Some tale → now.doubt ≡ Some failed → failed.called ≡ true → IsInDoubtAfter tale now.device first.standing since.run.rounds failed.round → IsLogged since.run.rounds first.standing [] asks list tale now.device
+logged_in_doubt {first} {start} {now} {asks} {list} since tale failed told is called after = by_state after.state
   where
     never : NoneInDoubt list → ⊥
     never calm = cc ((calm_is_sure since calm).1, is)
@@ -186,14 +217,15 @@ logged_in_doubt {first} {start} {now} {asks} {list} since tale failed is after =
 
     by_state : (AreSealed after.history × (rounds_in after.history ≡ since.run.rounds) × IfSome now.device.told (λ end. IsRoundInDoubt end.base end.log (state_after first.standing since.run.rounds) failed.round))
         ⊎ ((rounds_in after.history ≡ since.run.rounds ++ failed.round ∷ []) × IfSome now.device.told (λ end. HasRoundLanded end.base end.log (state_after first.standing since.run.rounds) failed.round))
-        → IsLogged first.standing [] asks list tale now.device
+        → IsLogged since.run.rounds first.standing [] asks list tale now.device
     by_state (inl (sealed, are, still)) = record {
       history = after.history;
       members = either_state (state_after first.standing since.run.rounds) failed.round;
       left = after.left;
       more = after.left.ops;
       parts = refl;
-      around = inr (since.run.rounds, failed.round, refl, inl are);
+      work = worked since tale after.left.ops told after.left.told;
+      around = inr (failed.round, inl are, refl);
       explained = subst (λ (h : History). Explains h first.standing asks list) (sym are) (rounds_explain since);
       new_sealed = first_sealed since.run.rounds after.history [] asks list (are ∙ sym (append-nil since.run.rounds)) (λ place inside. sealed_by_place after.history place sealed (omega (arith, inside, as_many after.history, ap length are))) since.run.recorded;
       calm = λ calm. absurd (never calm);
@@ -206,27 +238,28 @@ logged_in_doubt {first} {start} {now} {asks} {list} since tale failed is after =
           left = after.left;
           more = after.left.ops;
           parts = refl;
-          around = inr (since.run.rounds, failed.round, refl, inr are);
-          explained = subst (λ (h : History). Explains h first.standing asks list) (sym are) (with_doubt_explain since failed is (told_end landed).legal);
+          work = worked since tale after.left.ops told after.left.told;
+          around = inr (failed.round, inr are, refl);
+          explained = subst (λ (h : History). Explains h first.standing asks list) (sym are) (with_doubt_explain since failed is called (told_end landed).legal);
           new_sealed = first_sealed since.run.rounds after.history (failed.round ∷ []) asks list are (λ place inside. all_but_last after.history (length since.run.rounds) place one many inside) since.run.recorded;
           calm = λ calm. absurd (never calm);
         }
 
 -- whatever became of it
-pub logged_since : {first start now : EngineView} {asks : List Ask} {list : List Outcome} (since : IsRunSince first start asks now list) (tale : Tale) → BeginsAt tale (Some first.standing ∷ []) first → IsLogged first.standing [] asks list tale now.device
+pub logged_since : {first start now : EngineView} {asks : List Ask} {list : List Outcome} (since : IsRunSince first start asks now list) (tale : Tale) → BeginsAt tale (Some first.standing ∷ []) first → IsLogged since.run.rounds first.standing [] asks list tale now.device
 logged_since {first} {start} {now} {asks} {list} since tale begins = by_doubt now.doubt refl
   where
     covered : IsCovered tale (Some first.standing ∷ []) first.standing now since.run.rounds
     covered = since.come.covered tale (Some first.standing ∷ []) begins
 
-    by_decided : IsDecidedAfter tale (Some first.standing ∷ []) now first.standing since.run.rounds → IsLogged first.standing [] asks list tale now.device
+    by_decided : IsDecidedAfter tale (Some first.standing ∷ []) now first.standing since.run.rounds → IsLogged since.run.rounds first.standing [] asks list tale now.device
     by_decided (inl after) = logged_sealed since tale begins.told after
-    by_decided (inr (unsure, none, still)) = logged_found since tale unsure none still
+    by_decided (inr (unsure, none, still)) = logged_found since tale begins.told unsure none still
 
-    by_called : (failed : FailedRound) (called : Bool) → now.doubt ≡ Some failed → failed.called ≡ called → IsLogged first.standing [] asks list tale now.device
-    by_called failed true is called = logged_in_doubt since tale failed is (covered.in_doubt failed is called)
+    by_called : (failed : FailedRound) (called : Bool) → now.doubt ≡ Some failed → failed.called ≡ called → IsLogged since.run.rounds first.standing [] asks list tale now.device
+    by_called failed true is called = logged_in_doubt since tale failed begins.told is called (covered.in_doubt failed is called)
     by_called failed false is uncalled = by_decided (covered.decided (ap was_called is ∙ uncalled))
 
-    by_doubt : (doubt : Option FailedRound) → now.doubt ≡ doubt → IsLogged first.standing [] asks list tale now.device
+    by_doubt : (doubt : Option FailedRound) → now.doubt ≡ doubt → IsLogged since.run.rounds first.standing [] asks list tale now.device
     by_doubt None is = by_decided (covered.decided (ap was_called is))
     by_doubt (Some failed) is = by_called failed failed.called is refl

@@ -84,7 +84,7 @@ settling_costs s = record {
 -- What a run costs
 
 run_costs : (s : Standing) (first : List LogOp) (fences syncs : ℕ) → Costs fences syncs first → CostsOneEach s first fences syncs
-run_costs s first fences syncs costs asks list tale after run calm =
+run_costs s first fences syncs costs known asks list tale after run calm =
     let each = run.calm calm in
     record {
       fence = omega (arith, ap fence_count run.parts, fences-append first run.more, costs.fence, each.fences, fences_counted first, fences_counted run.more, fences_counted run.left.ops);

@@ -16,9 +16,9 @@ use Rattle.pb_report.specs.declared.outcome.Outcome.{Outcome}
 use Rattle.pb_report.specs.declared.outcome.Outcome.TheVariants.{New, Kept, Old, Gap, Changed, Doubt, Left}
 use Rattle.pb_report.specs.Outcomes.{AreLeft, AreLines, IsLine, HasEntry, decided_outcome, entry_of, is_same_op, kept_with, lines_of_client, outcome_by}
 use Rattle.pb_report.proofs.EntryLemmas.{IsFull, full_after, full_after_all, same_or_other}
-use Rattle.pb_broker.specs.Chain.{Point, Called, Chain, Steps, IsBehind, HasPrinted, PrintsReply, IsReplied}
+use Rattle.pb_broker.specs.Chain.{Point, Called, Chain, Steps, IsBehind, HasRequests, HasPrinted, PrintsReply, IsReplied}
+use Rattle.pb_broker.specs.Ending.{Ending}
 use Rattle.pb_broker.proofs.Applied.{AreEach, Contains-cases, Contains-first, client_of_line, found_in, keep_each, line_behind, line_of_all, line_of_client, sealed_entry}
-use Rattle.pb_broker.proofs.Cases.{HasServed}
 use Rattle.pb_broker.proofs.Held.{IsServedIn, IsServing, Stays, held_since, same_line, served_held, serving}
 use Rattle.pb_broker.proofs.Points.{IsSound}
 use Rattle.pb_broker.proofs.Steps.{chain_sound}
@@ -172,14 +172,17 @@ module _ (s t : Standing) (before : Point) (called : Called before.tale) (asks :
       (served.logged.explained.outcomes.each_client ask.client) ask outcome reply (line_of_client ask.client (zip asks list) (ask, outcome) refl line) says
 
 pub each_reply_stands : (before next now : Point) (called : Called before.tale) (ask : Ask) (reply : Reply) (count : ℕ) → Chain before → HasPrinted called.answered.ending ask reply → IsBehind before called next → Steps count next now → IsReplied now ask reply
-each_reply_stands before next now called ask reply count chain printed behind steps = go (serving before called sound (subst HasServed (sym printed.served) tt))
+each_reply_stands before next now called ask reply count chain printed behind steps = go (serving before called printed.asks printed.list sound has)
   where
     sound : IsSound before
     sound = chain_sound before chain
 
+    has : HasRequests called.answered.ending printed.asks printed.list
+    has = subst (λ (ending : Ending). HasRequests ending printed.asks printed.list) (sym printed.served) (refl, refl)
+
     go : IsServing before called → IsReplied now ask reply
     go some =
-        let line = same_line called.answered.ending some.asks printed.asks some.list printed.list (ask, printed.outcome) some.ending printed.served printed.line in
+        let line = same_line called.answered.ending some.asks printed.asks some.list printed.list (ask, printed.outcome) some.ending has printed.line in
         let held = served_held (HasReply (entry_of ask reply) some.s) some.s some.t before called some.asks some.list some.served
         (λ kept lost whole unsealed. printed_recorded some.s some.t before called some.asks some.list some.served kept lost whole unsealed ask printed.outcome reply line printed.prints) in
         let end = held_since (HasReply (entry_of ask reply) some.s) some.s before next now called count sound (reply_stays (entry_of ask reply) some.s) held behind steps in

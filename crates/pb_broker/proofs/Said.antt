@@ -11,7 +11,6 @@ use Rattle.pb_report.specs.declared.outcome.Outcome.{Outcome}
 use Rattle.pb_report.proofs.EntryLemmas.{full_after_all, last_of}
 use Rattle.pb_broker.specs.Chain.{Point, Called, Chain, Steps, IsBehind, IsApplied, HasSaid}
 use Rattle.pb_broker.proofs.Applied.{last_rises_all, said_at_most, stands_or_began}
-use Rattle.pb_broker.proofs.Cases.{HasServed}
 use Rattle.pb_broker.proofs.Held.{IsHeld, IsHeldAt, IsServedIn, IsServing, Stays, held_point, held_since, same_line, served_held, serving}
 use Rattle.pb_broker.proofs.Points.{IsSound}
 use Rattle.pb_broker.proofs.Steps.{chain_sound}
@@ -50,7 +49,7 @@ module _ (client number : ℕ) (s t : Standing) (before : Point) (called : Calle
   said_held = served_held (AtLeast client number s) s t before called asks list served said_of
 
 pub applied_stays : (before next now : Point) (called : Called before.tale) (client number count : ℕ) → Chain before → HasSaid called.answered.ending client number → IsBehind before called next → Steps count next now → IsApplied now client number
-applied_stays before next now called client number count chain said behind steps = go (serving before called sound (subst HasServed (sym said.served) tt))
+applied_stays before next now called client number count chain said behind steps = go (serving before called said.asks said.list sound said.served)
   where
     sound : IsSound before
     sound = chain_sound before chain

@@ -22,7 +22,6 @@ use Rattle.pb_layout.proofs.OneRecovery.{has_region, represents_one}
 use Rattle.pb_layout_laws.proofs.ToldCalls.{from_told}
 use Rattle.pb_engine.specs.View.{DeviceRepresents}
 use Rattle.pb_script.specs.declared.command.Command.{Command}
-use Rattle.pb_script.specs.declared.command.Command.TheVariants.{Fresh}
 use Rattle.pb_script.specs.Command.{command_of}
 use Rattle.pb_broker.specs.Comes.{SettlingIsCutOff}
 use Rattle.pb_broker.specs.Chain.{Point, Called, Step, handed, crashed, Steps, Chain, IsFound, IsHandedBack, IsReadyAgain, IsCrashed, begun_by, first_behind, rounds_behind}
@@ -153,7 +152,7 @@ region_sound before called s is history members left legal =
 pub empty_keeps : (head : Header) → KeepsAll (empty_for head)
 empty_keeps head = length-replicate head.clients []
 
-bare_sound : (before : Point) (called : Called before.tale) (is : IsBarePoint before) (head : Header) → command_of called.words ≡ Some (Fresh head.kind head.clients head.size) → (history : List LoggedRound) (members : List (Option Standing)) → IsCoveredExit before.tale called.call.after (empty_for head) history members → IsLegal (empty_for head) (rounds_in history) → (¬ HasRegion (contents_of called.after) → HasNone called.after) → IsCallSound before called
+bare_sound : (before : Point) (called : Called before.tale) (is : IsBarePoint before) (head : Header) → begun_by (command_of called.words) None ≡ Some (empty_for head) → (history : List LoggedRound) (members : List (Option Standing)) → IsCoveredExit before.tale called.call.after (empty_for head) history members → IsLegal (empty_for head) (rounds_in history) → (¬ HasRegion (contents_of called.after) → HasNone called.after) → IsCallSound before called
 bare_sound before called is head command history members left legal bare =
     covered_sound before called (empty_for head) first (empty_keeps head) history members
     (subst (λ (h : History). IsCoveredExit before.tale called.call.after (state_after (empty_for head) h) history members) (sym is.rounds) left)
@@ -161,7 +160,7 @@ bare_sound before called is head command history members left legal bare =
     (λ image crash. inl (tt, bare_images before.tale is.ready image crash)) bare
   where
     first : first_behind before called ≡ Some (empty_for head)
-    first = ap (λ (c : Option Command). begun_by c before.first) command ∙ ap (begun_by (Some (Fresh head.kind head.clients head.size))) is.first
+    first = ap (begun_by (command_of called.words)) is.first ∙ command
 
 -- By what the call came to
 
@@ -178,13 +177,13 @@ found_is before called s t is stands =
     represents_one (contents_of before.tale) t (state_after s before.rounds) (if_lines (λ image. Represents image t) called.call.before.now (contents_of before.tale) (lines_before before called) stands) is.region.holds
 
 -- a device that is ready with standings alone has a region
-pub around_has_region : (s : Standing) (told : History) (members : List (Option Standing)) (tale : Tale) → AreAround s told members → IsReadyWith members tale → HasRegion (contents_of tale)
-around_has_region s told members tale (inl alone) ready =
-    elim (subst (λ (m : List (Option Standing)). ImageRepresentsOne (contents_of tale) m) alone ready.holds) [
-      | inl stands ↦ has_region (contents_of tale) (state_after s told) stands
+pub around_has_region : (s : Standing) (known told : History) (members : List (Option Standing)) (tale : Tale) → AreAround s known told members → IsReadyWith members tale → HasRegion (contents_of tale)
+around_has_region s known told members tale (inl alone) ready =
+    elim (subst (λ (m : List (Option Standing)). ImageRepresentsOne (contents_of tale) m) alone.1 ready.holds) [
+      | inl stands ↦ has_region (contents_of tale) (state_after s known) stands
       | inr never ↦ absurd never
     ]
-around_has_region s told members tale (inr either) ready =
+around_has_region s known told members tale (inr either) ready =
     elim (subst (λ (m : List (Option Standing)). ImageRepresentsOne (contents_of tale) m) either.2 ready.holds) [
       | inl stands ↦ has_region (contents_of tale) _ stands
       | inr rest ↦ elim rest [ inl stands ↦ has_region (contents_of tale) _ stands | inr never ↦ absurd never ]
@@ -195,7 +194,7 @@ made_sound before (inr (s, is)) called was = absurd (no_region_found before call
 made_sound before (inl is) called was =
     let logged = was.serves.run.logged before.tale called.begins is.ready in
     bare_sound before called is was.head was.is logged.history logged.members logged.left logged.explained.legal
-    (λ none. absurd (none (around_has_region (empty_for was.head) (rounds_in logged.history) logged.members called.after logged.around
+    (λ none. absurd (none (around_has_region (empty_for was.head) was.serves.run.history (rounds_in logged.history) logged.members called.after logged.around
     (subst (IsReadyWith logged.members) (after_is before.tale called.after (empty_for was.head) [] logged.history logged.members called.call.after called.ends logged.left) logged.left.exit.ready))))
 
 failed_sound : (before : Point) → IsSound before → (called : Called before.tale) → FailedToMake (command_of called.words) called.call → IsCallSound before called

@@ -9,6 +9,7 @@ use Rattle.pb_object.specs.declared.request.Reply.{Reply}
 use Rattle.pb_object.specs.History.{Entry, History, IsLegal, kept_by, state_after}
 use Rattle.pb_object.specs.Standing.{Standing, empty_standing, kept_list_of, newest_of}
 use Rattle.pb_layout.specs.Damage.{HasRegion}
+use Rattle.pb_layout.specs.Exits.{empty_for}
 use Rattle.pb_layout.specs.LogHistory.{rounds_in, history_of}
 use Rattle.pb_layout.specs.Once.{HasNumbersOnce}
 use Rattle.pb_layout.specs.Recovered.{Represents}
@@ -17,11 +18,12 @@ use Rattle.pb_report.specs.declared.outcome.Outcome.{Outcome}
 use Rattle.pb_report.specs.declared.outcome.Outcome.TheVariants.{New, Kept, Old}
 use Rattle.pb_report.specs.Outcomes.{HasEntry, entry_of}
 use Rattle.pb_script.specs.declared.command.Command.{Command}
-use Rattle.pb_script.specs.declared.command.Command.TheVariants.{Fresh}
+use Rattle.pb_script.specs.declared.command.Command.TheVariants.{Fresh, Drill}
 use Rattle.pb_script.specs.Command.{command_of}
 use Rattle.pb_broker.specs.declared.status.Status.{Status}
 use Rattle.pb_broker.specs.Call.{Call}
-use Rattle.pb_broker.specs.Ending.{Ending, Served}
+use Rattle.pb_broker.specs.Comes.{drill_head}
+use Rattle.pb_broker.specs.Ending.{Ending, Served, Drilled}
 use Rattle.pb_broker.specs.Running.{HasSome}
 use Rattle.pb_broker.specs.Stream.{Stream}
 use Rattle.pb_broker.specs.Top.{IsAnswered}
@@ -58,10 +60,11 @@ rounds_told before called = rounds_in (history_of called.after.base called.after
 abbrev pub rounds_behind : (before : Point) → Called before.tale → History
 rounds_behind before called = before.rounds ++ rounds_told before.tale called
 
--- a region begins with the empty standing of the `fresh` that made it
+-- a region begins with the empty standing of the `fresh` or `drill` that made it
 abbrev pub begun_by : Option Command → Option Standing → Option Standing
 begun_by command (Some s) = Some s
 begun_by (Some (Fresh kind clients size)) None = Some (empty_standing kind clients size)
+begun_by (Some (Drill seed clients count)) None = Some (empty_for (drill_head clients))
 begun_by _ None = None
 
 abbrev pub first_behind : (before : Point) → Called before.tale → Option Standing
@@ -139,11 +142,17 @@ SaysApplied (Kept reply) = Unit {0}
 SaysApplied Old = Unit {0}
 SaysApplied _ = ⊥
 
+-- these requests were run, with these outcomes: each has its line, or is counted in a drill's summary
+abbrev pub HasRequests : Ending → List Ask → List Outcome → Type 0
+HasRequests (Served its_asks its_list) asks list = (its_asks ≡ asks) × (its_list ≡ list)
+HasRequests (Drilled its_asks its_list versions) asks list = (its_asks ≡ asks) × (its_list ≡ list)
+HasRequests _ asks list = ⊥
+
 -- the call said so of a client's request of this number
 pub record HasSaid (ending : Ending) (client number : ℕ) : Type 0 where
   pub asks : List Ask
   pub list : List Outcome
-  pub served : ending ≡ Served asks list
+  pub served : HasRequests ending asks list
   pub ask : Ask
   pub outcome : Outcome
   pub line : Contains (zip asks list) (ask, outcome)

@@ -9,17 +9,20 @@ use Rattle.pb_object.specs.declared.codes.Answer.TheVariants.{Is}
 use Rattle.pb_object.specs.declared.kind.Kind.{Kind}
 use Rattle.pb_object.specs.declared.request.Ask.{Ask}
 use Rattle.pb_object.specs.declared.request.Op.{Op}
+use Rattle.pb_object.specs.History.{History}
 use Rattle.pb_object.specs.Laws.{after_operations}
 use Rattle.pb_object.specs.Map.{Register, register_at}
 use Rattle.pb_object.specs.Object.{Registers, next_state, reply_of}
 use Rattle.pb_object.specs.Request.{reply}
 use Rattle.pb_object.specs.Standing.{Standing}
+use Rattle.pb_core.specs.declared.event.Stepped.{Stepped}
+use Rattle.pb_layout.specs.declared.header.Header.{Header}
 use Rattle.pb_layout.specs.Damage.{HasRegion, IsDamagedAt}
 use Rattle.pb_layout.specs.Recovered.{Represents}
 use Rattle.pb_report.specs.declared.outcome.Outcome.{Outcome}
 use Rattle.pb_script.specs.declared.command.Command.{Command}
 use Rattle.pb_script.specs.declared.command.Command.TheVariants.{Fresh, Run, Report, Replay, Drill}
-use Rattle.pb_replay.specs.Replay.{HasTooManyEvents}
+use Rattle.pb_replay.specs.Replay.{IsReplayed, HasTooManyEvents, HasBadEvent}
 use Rattle.pb_broker.specs.declared.source.TheConstants.{SOURCE_LIMIT}
 use Rattle.pb_broker.specs.declared.status.Status.{Status}
 use Rattle.pb_broker.specs.declared.status.Status.TheVariants.{Done, OutOfMemory, Misnumbered}
@@ -53,14 +56,29 @@ pub record TellsStanding (s : Standing) (device : Device) : Type 0 where
   pub told : device.now ≡ Some image
   pub stands : Represents image s
 
+-- the source tells bytes of which this holds
+pub record TellsBytes (Holds : List ℕ → Type 0) (read : Stream) : Type 0 where
+  pub bytes : List ℕ
+  pub told : read.before ≡ Some bytes
+  pub holds : Holds bytes
+
+-- .. which are not too many, and of which this holds
+abbrev pub TellsSource : (List ℕ → Type 0) → Stream → Type 0
+TellsSource Holds read = TellsBytes (λ bytes. (length bytes ≤ SOURCE_LIMIT) × Holds bytes) read
+
+-- the source tells a schedule, all of whose events can be played
+abbrev pub TellsSchedule : Header → Stream → Type 0
+TellsSchedule head read =
+    (answers : List Stepped) × (s : Standing) × TellsSource (λ bytes. IsReplayed head bytes answers s) read
+
 -- the words are a command, and source and device are as it wants them
 abbrev pub IsWellAsked : Option Command → Call → Type 0
 IsWellAsked None call = ⊥
 IsWellAsked (Some (Fresh kind clients size)) call = TellsScript kind clients call.read × TellsNone call.before
 IsWellAsked (Some Run) call = (s : Standing) × TellsStanding s call.before × TellsScript s.kind s.clients call.read
 IsWellAsked (Some Report) call = (s : Standing) × TellsStanding s call.before
-IsWellAsked (Some (Replay kind clients size)) call = ⊥
-IsWellAsked (Some (Drill seed clients count)) call = ⊥
+IsWellAsked (Some (Replay kind clients size)) call = TellsSchedule (record { kind = kind; clients = clients; size = size }) call.read
+IsWellAsked (Some (Drill seed clients count)) call = TellsNone call.before
 
 -- no call of source, device or sink failed
 pub record IsFaultless (call : Call) (out : Stream) : Type 0 where
@@ -74,18 +92,8 @@ Succeeds status = (status ≡ Done) ⊎ ((status ≡ Misnumbered) ⊎ (status �
 
 -- Exactness
 
--- the source tells bytes of which this holds
-pub record TellsBytes (Holds : List ℕ → Type 0) (read : Stream) : Type 0 where
-  pub bytes : List ℕ
-  pub told : read.before ≡ Some bytes
-  pub holds : Holds bytes
-
 abbrev pub IsTooLong : List ℕ → Type 0
 IsTooLong bytes = SOURCE_LIMIT < length bytes
-
--- .. which are not too many, and of which this holds
-abbrev pub TellsSource : (List ℕ → Type 0) → Stream → Type 0
-TellsSource Holds read = TellsBytes (λ bytes. (length bytes ≤ SOURCE_LIMIT) × Holds bytes) read
 
 -- the device tells lines of which this holds
 pub record TellsLines (Holds : List Line → Type 0) (device : Device) : Type 0 where
@@ -110,7 +118,9 @@ TellsCause (Some Report) call NoRegion = TellsLines (λ image. ¬ HasRegion imag
 TellsCause (Some Report) call (Damaged line) = TellsLines (λ image. IsDamagedAt image line) call.before
 TellsCause (Some (Replay kind clients size)) call Long = TellsBytes IsTooLong call.read
 TellsCause (Some (Replay kind clients size)) call Many = TellsSource HasTooManyEvents call.read
-TellsCause (Some (Drill seed clients count)) call Usage = Unit {0}
+TellsCause (Some (Replay kind clients size)) call (BadLine number) =
+    TellsSource (HasBadEvent (record { kind = kind; clients = clients; size = size }) number) call.read
+TellsCause (Some (Drill seed clients count)) call Taken = TellsLines HasRegion call.before
 TellsCause _ call _ = ⊥
 
 -- the call says so, or memory ran out
@@ -128,8 +138,8 @@ pub record Costs (fences syncs : ℕ) (ops : List LogOp) : Type 0 where
 -- its rounds, and for so many more
 abbrev pub CostsOneEach : Standing → List LogOp → ℕ → ℕ → Type 0
 CostsOneEach s first fences syncs =
-    (asks : List Ask) (list : List Outcome) (tale : Tale) (after : Device)
-    (run : IsLogged s first asks list tale after) → NoneInDoubt list
+    (known : History) (asks : List Ask) (list : List Outcome) (tale : Tale) (after : Device)
+    (run : IsLogged known s first asks list tale after) → NoneInDoubt list
     → Costs (fences + length run.history) (syncs + length run.history) run.left.ops
 
 -- Maps

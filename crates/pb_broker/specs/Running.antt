@@ -1,5 +1,5 @@
 -- What a script that was run comes to, and what a crash may leave of the run.
-use Rattle.std.specs.Prelude.{◌≡◌, ℕ, ◌<◌, ◌≤◌, Bool, true, false, List, [], ◌∷◌, Option, Some, Contains, length, count_by, filter, replicate, ◌++◌, ◌⊎◌, ◌==◌, if◌then◌else◌}
+use Rattle.std.specs.Prelude.{◌≡◌, ℕ, ◌<◌, ◌≤◌, Bool, true, false, List, [], ◌∷◌, Option, Some, Contains, length, count_by, filter, replicate, ◌++◌, ◌⊎◌, ◌==◌, if◌then◌else◌, None}
 use Rattle.std.specs.List.{zip}
 use Rattle.pb_pmem.specs.declared.line.Line.{Line}
 use Rattle.pb_pmem.specs.declared.log.LogOp.{LogOp}
@@ -17,6 +17,7 @@ use Rattle.pb_layout.specs.Header.{record_length}
 use Rattle.pb_layout.specs.LogHistory.{LoggedRound, rounds_in, AreSealed}
 use Rattle.pb_layout.specs.RegionOps.{format_ops}
 use Rattle.pb_layout.specs.ToldExits.{IsCoveredExit, IsReadyWith}
+use Rattle.pb_engine.specs.Calls.{EngineCall, after_calls, AreCalls, all_ops, failure_count}
 use Rattle.pb_engine.specs.View.{DeviceRepresents}
 use Rattle.pb_report.specs.declared.outcome.Outcome.{Outcome}
 use Rattle.pb_report.specs.declared.outcome.Outcome.TheVariants.{Doubt}
@@ -64,41 +65,52 @@ empty_record head = replicate (record_length head) zero_line
 abbrev pub making_ops : Header → List LogOp
 making_ops head = format_ops head (empty_record head) (if side_count head.kind == 2 then empty_record head else [])
 
--- What the device is ready with behind a told history: the standing after it alone; or, where a round is in doubt, the
--- standings before and after that round, which is told or isn't
-abbrev pub AreAround : Standing → History → List (Option Standing) → Type 0
-AreAround s told members =
-    (members ≡ Some (state_after s told) ∷ [])
-    ⊎ ((rounds : History) × (round : Round) × (members ≡ either_state (state_after s rounds) round)
-    × ((told ≡ rounds) ⊎ (told ≡ rounds ++ round ∷ [])))
+-- What the device is ready with behind a told history, of which these rounds are known for sure: all of it is, and the device is
+-- ready with the standing after them alone; or a round is in doubt behind them, which is told or isn't, and the device is ready with
+-- the standings before and after that round
+abbrev pub AreAround : Standing → History → History → List (Option Standing) → Type 0
+AreAround s known told members =
+    ((told ≡ known) × (members ≡ Some (state_after s known) ∷ []))
+    ⊎ ((round : Round) × ((told ≡ known) ⊎ (told ≡ known ++ round ∷ [])) × (members ≡ either_state (state_after s known) round))
+
+-- What the operations of a run are: those of calls of an engine that was sure, one after the other: of rounds that were made or failed, and
+-- of settlings that were made or failed, each of what is in doubt then. They recorded the rounds that are known for sure, and each line in doubt has the
+-- one call that failed in its worker's hands
+pub record IsWork (s : Standing) (known : History) (list : List Outcome) (ops : List LogOp) : Type 0 where
+  pub calls : List EngineCall
+  pub are : AreCalls s (record { rounds = []; sure = true; doubt = None }) calls
+  pub ops_are : ops ≡ all_ops calls
+  pub recorded : (after_calls (record { rounds = []; sure = true; doubt = None }) calls).rounds ≡ known
+  pub failed : failure_count calls ≡ count_by is_doubt list
 
 -- What the log tells of a run since this moment. Its operations begin with these first ones, and are covered from s on by
 -- the history that they tell: at each moment since, each image that a crash may leave represents the state after a prefix
 -- of the rounds so far that holds each sealed one; or, until the first sync, what it might represent at the beginning.
--- That history explains the outcomes, the rounds of new requests are sealed, and the device is ready with what is around
--- it
-pub record IsLogged (s : Standing) (first : List LogOp) (asks : List Ask) (list : List Outcome) (tale : Tale)
+-- That history explains the outcomes, the rounds of new requests are sealed, these rounds of it are known for sure, and the
+-- device is ready with what is around them
+pub record IsLogged (known : History) (s : Standing) (first : List LogOp) (asks : List Ask) (list : List Outcome) (tale : Tale)
     (after : Device) : Type 0 where
   pub history : List LoggedRound
   pub members : List (Option Standing)
   pub left : IsCoveredExit tale after s history members
   pub more : List LogOp
   pub parts : left.ops ≡ first ++ more
-  pub around : AreAround s (rounds_in history) members
+  pub work : IsWork s known list more
+  pub around : AreAround s known (rounds_in history) members
   pub explained : Explains (rounds_in history) s asks list
   pub new_sealed : AreNewRecorded (rounds_in (filter (λ round. round.sealed) history)) (zip asks list)
   pub calm : NoneInDoubt list → IsCalmRun s history members more
 
--- A script was run from a standing on, with these outcomes. A history explains them, and unless a line is in doubt the
--- device's lines, where it tells them, represent the standing after it. Where the device told its log, and was ready as
--- this says, the history that the log tells explains the outcomes too
+-- A script was run from a standing on, with these outcomes. A history explains them: the rounds that are known for sure. Unless
+-- a line is in doubt the device's lines, where it tells them, represent the standing after it. Where the device told its log, and
+-- was ready as this says, the history that the log tells explains the outcomes too, and is that one but for a round in doubt
 pub record IsRun (s : Standing) (first : List LogOp) (IsStart : Tale → Type 0) (asks : List Ask) (list : List Outcome)
     (before after : Device) : Type 0 where
   pub history : History
   pub explained : Explains history s asks list
   pub counted : AreCounted before.faults after.faults list
   pub holds : NoneInDoubt list → DeviceRepresents (state_after s history) after
-  pub logged : (tale : Tale) → before.told ≡ Some tale → IsStart tale → IsLogged s first asks list tale after
+  pub logged : (tale : Tale) → before.told ≡ Some tale → IsStart tale → IsLogged history s first asks list tale after
 
 -- where a run begins on a region that is there: on a device that is ready with some standings
 abbrev pub HasSome : Tale → Type 0

@@ -1,5 +1,5 @@
 -- What the parts of a call come to, before any of it is printed.
-use Rattle.std.specs.Prelude.{◌≡◌, ◌⊎◌, ℕ, ◌≤◌, List, Option, IfSome, length}
+use Rattle.std.specs.Prelude.{◌≡◌, ◌⊎◌, ℕ, ◌≤◌, List, Option, IfSome, length, false, []}
 use Rattle.std.specs.Io.KnownBytes.{Consumes, IsAtEnd}
 use Rattle.pb_pmem.specs.declared.device.DeviceFault.{DeviceFault as Fault}
 use Rattle.pb_pmem.specs.Count.{Rose}
@@ -10,22 +10,24 @@ use Rattle.pb_object.specs.Standing.{Standing}
 use Rattle.pb_layout.specs.declared.header.Header.{Header}
 use Rattle.pb_layout.specs.Damage.{HasRegion}
 use Rattle.pb_pair.specs.declared.why.Why.TheVariants.{Device as DeviceWhy}
+use Rattle.pb_engine.specs.Covers.{SettleCovers, FailedSettleCovers}
+use Rattle.pb_engine.specs.Outcomes.{HasSettled, HasFailedToSettle}
 use Rattle.pb_engine.specs.Opening.{IsFresh, IsFreshRefusal, IsAdopted}
 use Rattle.pb_engine.specs.View.{EngineView}
 use Rattle.pb_core.specs.declared.event.Stepped.{Stepped}
 use Rattle.pb_replay.specs.declared.played.Played.{Played}
 use Rattle.pb_replay.specs.Replay.{Holds, IsReplayed}
 use Rattle.pb_report.specs.declared.outcome.Outcome.{Outcome}
-use Rattle.pb_run.specs.Answer.{SettlesEngine, StaysUnsure}
+use Rattle.pb_report.specs.SummaryText.{summary_text}
 use Rattle.pb_run.specs.Run.{HasRun}
 use Rattle.pb_broker.specs.declared.source.TheConstants.{SOURCE_LIMIT}
 use Rattle.pb_broker.specs.declared.stop.Stop.{Stop}
 use Rattle.pb_broker.specs.declared.stop.Stop.TheVariants.{Memory, ReadFault, Long, Many, Line, DeviceFault, Taken}
 use Rattle.pb_broker.specs.declared.status.Status.{Status}
 use Rattle.pb_broker.specs.Call.{IsSaid}
-use Rattle.pb_broker.specs.Comes.{HasTooMany, HasFew, IsScriptOf, HasBadLine, StopsReadingFew, IsNotOpened}
+use Rattle.pb_broker.specs.Comes.{HasTooMany, HasFew, IsScriptOf, HasBadLine, StopsReadingFew, IsNotOpened, version_sum}
 use Rattle.pb_broker.specs.Ending.{Stopped, Reported}
-use Rattle.pb_broker.specs.Texts.{ending_text, ending_status}
+use Rattle.pb_broker.specs.Texts.{ending_text, ending_status, stop_text, stop_status, run_status}
 use Rattle.pb_broker.specs.Source.{HasReadSome, IsReadWhole, IsLong}
 use Rattle.pb_broker.specs.Stream.{IsSound, Stream}
 
@@ -76,14 +78,43 @@ pub record ServesNew (head : Header) (before after : Device) (asks : List Ask) (
   pub run : HasRun start asks now list
   pub device : after ≡ now.device
 
--- the region couldn't be made
+-- the region couldn't be made; or memory ran out when it was, before any request
 abbrev pub IsNotMade : Header → Device → Device → Stop → Type 0
-IsNotMade head before after Memory = after ≡ before
+IsNotMade head before after Memory = (after ≡ before) ⊎ ServesNew head before after [] []
 IsNotMade head before after DeviceFault = (fault : Fault) × IsFreshRefusal head before after (DeviceWhy fault)
 IsNotMade head before after Taken = IfSome before.now HasRegion × (after ≡ before)
 IsNotMade head before after _ = ⊥
 
+-- A drill
+
+-- requests were run on an engine, and summed up with the versions that it knows for sure
+pub record DrillsOn (start : EngineView) (after : Device) (asks : List Ask) (out : Stream) (status : Status) : Type 0 where
+  pub list : List Outcome
+  pub now : EngineView
+  pub run : HasRun start asks now list
+  pub device : after ≡ now.device
+  pub said : IsSaid out (summary_text asks list (version_sum now.standing.state)) (run_status list) status
+
+-- .. which was made on the device; or it couldn't be made
+abbrev pub DrillsNew : Header → Device → Device → List Ask → Stream → Status → Type 0
+DrillsNew head before after asks out status =
+    ((start : EngineView) × IsFresh head before start × DrillsOn start after asks out status)
+    ⊎ ((stop : Stop) × IsNotMade head before after stop × IsSaid out (stop_text stop) (stop_status stop) status)
+
 -- A region that is there
+
+-- the engine was settled
+pub record SettlesEngine (old new : EngineView) : Type 0 where
+  pub unsure : old.sure ≡ false
+  pub settled : HasSettled old new
+  pub covers : SettleCovers old new
+
+-- it wasn't sure, and settling failed
+pub record StaysUnsure (old new : EngineView) : Type 0 where
+  pub unsure : old.sure ≡ false
+  pub fault : Fault
+  pub failed : HasFailedToSettle fault old new
+  pub covers : FailedSettleCovers old new
 
 -- an engine that was just opened was settled, and the requests of the source were run on it
 pub record ServesFound (kind : Kind) (found : EngineView) (bytes : List ℕ) (now : EngineView) (asks : List Ask)
@@ -93,9 +124,10 @@ pub record ServesFound (kind : Kind) (found : EngineView) (bytes : List ℕ) (no
   pub settled : SettlesEngine found start
   pub run : HasRun start asks now list
 
--- why they weren't run
+-- why they weren't run: before the region was settled or, where memory ran out, also behind that
 abbrev pub StopsFound : Kind → EngineView → List ℕ → EngineView → Stop → Type 0
-StopsFound kind found bytes now Memory = now ≡ found
+StopsFound kind found bytes now Memory =
+    (now ≡ found) ⊎ (((asks : List Ask) × IsScriptOf kind found.standing.clients asks bytes) × SettlesEngine found now)
 StopsFound kind found bytes now Many = HasTooMany bytes
 StopsFound kind found bytes now (Line number) = HasBadLine kind found.standing.clients number bytes × (now ≡ found)
 StopsFound kind found bytes now DeviceFault =

@@ -5,6 +5,7 @@ use Rattle.pb_report.specs.declared.outcome.Outcome.{Outcome}
 use Rattle.pb_report.specs.declared.outcome.Outcome.TheVariants.{Gap, Changed}
 use Rattle.pb_report.specs.OutcomeText.{outcomes_text}
 use Rattle.pb_report.specs.Pieces.{numbered}
+use Rattle.pb_report.specs.SummaryText.{summary_text}
 use Rattle.pb_region_report.specs.ReportText.{report_text}
 use Rattle.pb_replay.specs.AnswerText.{replay_text}
 use Rattle.pb_run.specs.Run.{is_doubt}
@@ -12,7 +13,7 @@ use Rattle.pb_broker.specs.declared.status.Status.{Status}
 use Rattle.pb_broker.specs.declared.status.Status.TheVariants.{Done, OutOfMemory, Usage as UsageStatus, Refused, ReadFault as ReadFaultStatus, WriteFault, DeviceFault as DeviceFaultStatus, Unusable, Misnumbered}
 use Rattle.pb_broker.specs.declared.stop.Stop.{Stop}
 use Rattle.pb_broker.specs.declared.stop.Stop.TheVariants.{Memory, Usage, ReadFault, Long, Many, Line, DeviceFault, Taken, NoRegion, Damaged}
-use Rattle.pb_broker.specs.Ending.{Ending, Stopped, Served, Reported, Replayed}
+use Rattle.pb_broker.specs.Ending.{Ending, Stopped, Served, Drilled, Reported, Replayed}
 
 -- the number that the process ends with
 abbrev pub status_code : Status → ℕ
@@ -54,6 +55,7 @@ run_status list =
 abbrev pub ending_says : Ending → List ℕ × Status
 ending_says (Stopped stop) = stop_says stop
 ending_says (Served asks list) = (outcomes_text asks list, run_status list)
+ending_says (Drilled asks list versions) = (summary_text asks list versions, run_status list)
 ending_says (Reported s) = (report_text s, Done)
 ending_says (Replayed answers s) = (replay_text answers s, Done)
 

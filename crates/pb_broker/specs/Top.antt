@@ -5,7 +5,7 @@ use Rattle.pb_layout.specs.declared.header.Header.{Header}
 use Rattle.pb_script.specs.Command.{command_of}
 use Rattle.pb_broker.specs.declared.status.Status.{Status}
 use Rattle.pb_broker.specs.Call.{Call, IsSaid}
-use Rattle.pb_broker.specs.Comes.{Comes, ComesToReport, ComesToReplay}
+use Rattle.pb_broker.specs.Comes.{Comes, ComesToReport, ComesToReplay, ComesToDrill}
 use Rattle.pb_broker.specs.Ending.{Ending}
 use Rattle.pb_broker.specs.Texts.{ending_says}
 use Rattle.pb_broker.specs.Stream.{Stream}
@@ -20,6 +20,12 @@ pub record IsReported (before after : Device) (out : Stream) (status : Status) :
 pub record IsPlayed (head : Header) (read out : Stream) (status : Status) : Type 0 where
   pub ending : Ending
   pub comes : ComesToReplay head read ending
+  pub said : IsSaid out (ending_says ending).0 (ending_says ending).1 status
+
+-- a drill: it comes to one of the endings of a drill, whose text is printed
+pub record IsDrilled (seed clients count : ℕ) (before after : Device) (out : Stream) (status : Status) : Type 0 where
+  pub ending : Ending
+  pub comes : ComesToDrill seed clients count before after ending
   pub said : IsSaid out (ending_says ending).0 (ending_says ending).1 status
 
 -- THE THEOREM. A call of the program comes to one of its command's endings, each of which has its cause, and says what is

@@ -22,11 +22,14 @@ use pb_pmem::Pmem;
 use pb_queue::TwinQueue;
 use pb_stack::Stack;
 use std::alloc::Global;
+use std::sync::Wait;
+use std::thread::Threads;
 
 /// Reads the source's script, makes a region on the device, and runs the script on it.
 ///
-/// The lines are judged before the device is called, and all memory is taken before it is written to.
-pub fn fresh<S: Source, P: Pmem, G: Gate>(
+/// The lines are judged before the device is called, and all memory is taken before the first request is asked for.
+pub fn fresh<R: Wait + Threads + Sync, S: Source, P: Pmem + Send, G: Gate>(
+    rt: &R,
     alloc: Global,
     head: &Header,
     source: &mut S,
@@ -41,7 +44,7 @@ pub fn fresh<S: Source, P: Pmem, G: Gate>(
         MatchResult result.served (λ requests. ServesFresh head.now call requests.asks.items requests.outcomes.items) (StopsFresh head.now call) }
 {
     match prepare(alloc, head, source) {
-        Ok(requests) => run_new(alloc, head, requests, device, gate),
+        Ok(requests) => run_new(rt, alloc, head, requests, device, gate),
         Err(stop) => Ran {
             served: Err(stop),
             device,
@@ -62,7 +65,8 @@ fn prepare<S: Source>(alloc: Global, head: &Header, source: &mut S) -> Result<Re
 }
 
 /// Makes the region of the header's kind, and runs requests on it.
-fn run_new<P: Pmem, G: Gate>(
+fn run_new<R: Wait + Threads + Sync, P: Pmem + Send, G: Gate>(
+    rt: &R,
     alloc: Global,
     head: &Header,
     requests: Requests,
@@ -76,15 +80,16 @@ fn run_new<P: Pmem, G: Gate>(
         (IsNotMade head.now (P.seen device) (P.seen result.device)) }
 {
     match head.kind {
-        Kind::Map => run_comb::<RegMap, P, G>(alloc, head, requests, device, gate),
-        Kind::Stack => run_comb::<Stack, P, G>(alloc, head, requests, device, gate),
-        Kind::Heap => run_comb::<MinHeap, P, G>(alloc, head, requests, device, gate),
-        Kind::Queue => run_queue(alloc, head, requests, device, gate),
+        Kind::Map => run_comb::<R, RegMap, P, G>(rt, alloc, head, requests, device, gate),
+        Kind::Stack => run_comb::<R, Stack, P, G>(rt, alloc, head, requests, device, gate),
+        Kind::Heap => run_comb::<R, MinHeap, P, G>(rt, alloc, head, requests, device, gate),
+        Kind::Queue => run_queue(rt, alloc, head, requests, device, gate),
     }
 }
 
 /// The same where the object is combined by one engine.
-fn run_comb<O: Object, P: Pmem, G: Gate>(
+fn run_comb<R: Wait + Threads + Sync, O: Object + Send, P: Pmem + Send, G: Gate>(
+    rt: &R,
     alloc: Global,
     head: &Header,
     requests: Requests,
@@ -99,19 +104,23 @@ fn run_comb<O: Object, P: Pmem, G: Gate>(
         (IsNotMade head.now (P.seen device) (P.seen result.device)) }
 {
     match Comb::<O, P>::fresh(alloc, device, head.clients, head.size) {
-        Ok(mut comb) => {
-            let served = serve(&mut comb, requests, gate);
-            Ran {
+        Ok(comb) => match serve(rt, alloc, comb, requests, gate) {
+            Ok((comb, served)) => Ran {
                 served: Ok(served),
                 device: comb.close(),
-            }
-        }
+            },
+            Err(comb) => Ran {
+                served: Err(Stop::Memory),
+                device: comb.close(),
+            },
+        },
         Err(why) => refused(why),
     }
 }
 
 /// The same where the object is a queue.
-fn run_queue<P: Pmem, G: Gate>(
+fn run_queue<R: Wait + Threads + Sync, P: Pmem + Send, G: Gate>(
+    rt: &R,
     alloc: Global,
     head: &Header,
     requests: Requests,
@@ -126,13 +135,16 @@ fn run_queue<P: Pmem, G: Gate>(
         (IsNotMade head.now (P.seen device) (P.seen result.device)) }
 {
     match TwinQueue::fresh(alloc, device, head.clients, head.size) {
-        Ok(mut queue) => {
-            let served = serve(&mut queue, requests, gate);
-            Ran {
+        Ok(queue) => match serve(rt, alloc, queue, requests, gate) {
+            Ok((queue, served)) => Ran {
                 served: Ok(served),
                 device: queue.close(),
-            }
-        }
+            },
+            Err(queue) => Ran {
+                served: Err(Stop::Memory),
+                device: queue.close(),
+            },
+        },
         Err(why) => refused(why),
     }
 }

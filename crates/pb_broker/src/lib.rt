@@ -3,6 +3,7 @@
 
 pub mod chains;
 mod command;
+mod drill;
 mod fresh;
 pub mod laws;
 mod print;

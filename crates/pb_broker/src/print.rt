@@ -5,6 +5,7 @@ ghost use Rattle.std.specs.List.{list_any};
 ghost use Rattle.pb_pmem.specs.Count.{Rose};
 ghost use Rattle.pb_report.specs.OutcomeText.{outcomes_text};
 ghost use Rattle.pb_report.specs.Pieces.{numbered};
+ghost use Rattle.pb_report.specs.SummaryText.{summary_text};
 ghost use Rattle.pb_run.specs.Run.{is_doubt};
 ghost use Rattle.pb_broker.specs.declared.status.Status.TheVariants.{WriteFault};
 ghost use Rattle.pb_broker.specs.Call.{IsSaid};
@@ -17,7 +18,7 @@ use crate::stop::Stop;
 use arrayvec::ArrayString;
 use itoa::Buffer;
 use pb_io::{Sink, SinkFault};
-use pb_report::{Outcome, send, write_outcomes};
+use pb_report::{Outcome, send, write_outcomes, write_summary};
 
 /// Prints the outcomes of a run, or why there was none.
 pub fn print<K: Sink>(sink: &mut K, served: &Result<Requests, Stop>) -> Status
@@ -33,6 +34,16 @@ pub fn print<K: Sink>(sink: &mut K, served: &Result<Requests, Stop>) -> Status
         }
         Err(stop) => print_stop(sink, stop),
     }
+}
+
+/// Prints the summary of a drill, with the sum of the versions at its end.
+pub fn print_summary<K: Sink>(sink: &mut K, requests: &Requests, versions: u64) -> Status
+    requires { length requests.now.asks.items ≤ 32768 }
+    ensures { let out = stream (K.bytes sink.old) (K.bytes sink.new) (K.fault_count sink.old) (K.fault_count sink.new) in
+        IsSaid out (summary_text requests.now.asks.items requests.now.outcomes.items versions) (run_status requests.now.outcomes.items) result }
+{
+    let written = write_summary(sink, &requests.asks, &requests.outcomes, versions);
+    status_of(sink, written, run_status(&requests.outcomes))
 }
 
 /// Prints why a call stopped.

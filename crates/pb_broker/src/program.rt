@@ -9,6 +9,7 @@ ghost use Rattle.pb_broker.specs.Top.{IsAnswered};
 ghost use Rattle.pb_broker.specs.Stream.{stream};
 
 use crate::command::Ran;
+use crate::drill::drill;
 use crate::fresh::fresh;
 use crate::print::{print, print_stop};
 use crate::replays::replay;
@@ -21,6 +22,8 @@ use pb_layout::Header;
 use pb_pmem::Pmem;
 use pb_script::{Command, parse_words};
 use std::alloc::Global;
+use std::sync::Wait;
+use std::thread::Threads;
 
 /// How a call of the program ended.
 #[derive(Drop)]
@@ -38,16 +41,20 @@ pub struct Done<P: Drop> {
 /// - `report` prints what the device's region holds. It reads no source and writes nothing to the device.
 /// - `replay KIND CLIENTS SIZE` plays the source's schedule through the protocol on plain data, and prints its answers and the report of
 ///   what is left. It doesn't touch the device.
+/// - `drill SEED CLIENTS COUNT` makes a region of a map of 64 registers as `fresh` does, runs a script on it that is made from the seed,
+///   with so many requests of each client, and prints sums of what they came to. It reads no source.
 ///
 /// Any other words are no command. The words are judged first, then the source is read and its request lines are counted;
-/// its lines are judged before a region is made, and behind the opening of one. All memory is taken before the device is
-/// written to. Then the script is run, and its outcomes are written.
+/// its lines are judged before a region is made, and behind the opening of one. Then the script is run, by a worker for each client on a
+/// thread of its own, and its outcomes are written in the script's order. All memory is taken before the first request is asked for:
+/// where it runs out a region may have been made, or settled, but no request was applied.
 ///
 /// Each new request is durable before its outcome is written. Where the device tells its log and was ready to be opened,
 /// each image that a crash may leave represents the region after some of the requests, every answered one among them; or,
 /// until the first sync, what it might represent before the call. One of a client's last eight requests that is asked
 /// again under its number is answered again, and none is applied twice.
-pub fn top<S: Source, K: Sink, P: Pmem + Send, G: Gate>(
+pub fn top<R: Wait + Threads + Sync, S: Source, K: Sink, P: Pmem + Send, G: Gate>(
+    rt: &R,
     alloc: Global,
     words: &[String],
     source: &mut S,
@@ -76,9 +83,9 @@ pub fn top<S: Source, K: Sink, P: Pmem + Send, G: Gate>(
                 clients,
                 size,
             };
-            finish(sink, fresh(alloc, &head, source, device, gate))
+            finish(sink, fresh(rt, alloc, &head, source, device, gate))
         }
-        Some(Command::Run) => finish(sink, run(alloc, source, device, gate)),
+        Some(Command::Run) => finish(sink, run(rt, alloc, source, device, gate)),
         Some(Command::Report) => report(alloc, sink, device),
         Some(
             Command::Replay {
@@ -90,7 +97,13 @@ pub fn top<S: Source, K: Sink, P: Pmem + Send, G: Gate>(
             status: replay(alloc, kind, clients, size, source, sink),
             device,
         },
-        Some(Command::Drill { .. }) => no_command(sink, device),
+        Some(
+            Command::Drill {
+                seed,
+                clients,
+                count,
+            },
+        ) => drill(rt, alloc, seed, clients, count, sink, device, gate),
         None => no_command(sink, device),
     }
 }

@@ -60,7 +60,7 @@ fn print_report<K: Sink, P: Pmem>(alloc: Global, sink: &mut K, engine: &AnyEngin
 }
 
 /// Prints why a region wasn't opened.
-fn refuse<K: Sink, P: Pmem>(sink: &mut K, refused: Refused<P>) -> Done<P>
+pub fn refuse<K: Sink, P: Pmem>(sink: &mut K, refused: Refused<P>) -> Done<P>
     ensures said { let out = stream (K.bytes sink.old) (K.bytes sink.new) (K.fault_count sink.old) (K.fault_count sink.new) in
         IsSaid out (stop_text (stop_of_device refused.why)) (stop_status (stop_of_device refused.why)) result.status }
     ensures device { P.seen result.device ≡ P.seen refused.device }

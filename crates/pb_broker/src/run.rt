@@ -24,12 +24,15 @@ use pb_queue::TwinQueue;
 use pb_script::is_short;
 use pb_stack::Stack;
 use std::alloc::Global;
+use std::sync::Wait;
+use std::thread::Threads;
 
 /// Opens the device's region, settles it, and runs the source's script on it.
 ///
 /// Request lines are counted before the device is called, and judged behind the opening. All memory is taken before the
-/// region is settled.
-pub fn run<S: Source, P: Pmem, G: Gate>(
+/// first request is asked for.
+pub fn run<R: Wait + Threads + Sync, S: Source, P: Pmem + Send, G: Gate>(
+    rt: &R,
     alloc: Global,
     source: &mut S,
     device: P,
@@ -43,7 +46,7 @@ pub fn run<S: Source, P: Pmem, G: Gate>(
         MatchResult result.served (λ requests. ServesRun call requests.asks.items requests.outcomes.items) (StopsRun call) }
 {
     match read_few(alloc, source) {
-        Ok(bytes) => run_on(alloc, &bytes, device, gate),
+        Ok(bytes) => run_on(rt, alloc, &bytes, device, gate),
         Err(stop) => Ran {
             served: Err(stop),
             device,
@@ -67,20 +70,32 @@ fn read_few<S: Source>(alloc: Global, source: &mut S) -> Result<Vec<u8>, Stop>
 }
 
 /// Opens the region, and runs the script of these bytes on it.
-fn run_on<P: Pmem, G: Gate>(alloc: Global, bytes: &[u8], device: P, gate: &G) -> Ran<P>
+fn run_on<R: Wait + Threads + Sync, P: Pmem + Send, G: Gate>(
+    rt: &R,
+    alloc: Global,
+    bytes: &[u8],
+    device: P,
+    gate: &G,
+) -> Ran<P>
     requires { length bytes.now ≤ SOURCE_LIMIT }
     ensures { MatchResult result.served
         (λ served. ServesOn bytes.now (P.seen device) (P.seen result.device) served.asks.items served.outcomes.items)
         (StopsOn bytes.now (P.seen device) (P.seen result.device)) }
 {
     match Pair::open(alloc, device) {
-        Ok(pair) => run_opened(alloc, bytes, pair, gate),
+        Ok(pair) => run_opened(rt, alloc, bytes, pair, gate),
         Err(why) => refused(why),
     }
 }
 
 /// The same on the region that was opened, whatever its kind.
-fn run_opened<P: Pmem, G: Gate>(alloc: Global, bytes: &[u8], pair: Pair<P>, gate: &G) -> Ran<P>
+fn run_opened<R: Wait + Threads + Sync, P: Pmem + Send, G: Gate>(
+    rt: &R,
+    alloc: Global,
+    bytes: &[u8],
+    pair: Pair<P>,
+    gate: &G,
+) -> Ran<P>
     requires source { length bytes.now ≤ SOURCE_LIMIT }
     requires opened { IsOpened pair.device pair }
     ensures { MatchResult result.served
@@ -88,15 +103,16 @@ fn run_opened<P: Pmem, G: Gate>(alloc: Global, bytes: &[u8], pair: Pair<P>, gate
         (StopsOn bytes.now pair.device (P.seen result.device)) }
 {
     match pair.header().kind {
-        Kind::Map => run_comb::<RegMap, P, G>(alloc, bytes, pair, gate),
-        Kind::Stack => run_comb::<Stack, P, G>(alloc, bytes, pair, gate),
-        Kind::Heap => run_comb::<MinHeap, P, G>(alloc, bytes, pair, gate),
-        Kind::Queue => run_queue(alloc, bytes, pair, gate),
+        Kind::Map => run_comb::<R, RegMap, P, G>(rt, alloc, bytes, pair, gate),
+        Kind::Stack => run_comb::<R, Stack, P, G>(rt, alloc, bytes, pair, gate),
+        Kind::Heap => run_comb::<R, MinHeap, P, G>(rt, alloc, bytes, pair, gate),
+        Kind::Queue => run_queue(rt, alloc, bytes, pair, gate),
     }
 }
 
 /// The same where the object is combined by one engine.
-fn run_comb<O: Object, P: Pmem, G: Gate>(
+fn run_comb<R: Wait + Threads + Sync, O: Object + Send, P: Pmem + Send, G: Gate>(
+    rt: &R,
     alloc: Global,
     bytes: &[u8],
     pair: Pair<P>,
@@ -110,8 +126,8 @@ fn run_comb<O: Object, P: Pmem, G: Gate>(
         (StopsOn bytes.now pair.device (P.seen result.device)) }
 {
     match Comb::<O, P>::adopt(alloc, pair) {
-        Ok(mut comb) => {
-            let served = run_found(alloc, bytes, &mut comb, gate);
+        Ok(comb) => {
+            let (comb, served) = run_found(rt, alloc, bytes, comb, gate);
             Ran {
                 served,
                 device: comb.close(),
@@ -122,7 +138,13 @@ fn run_comb<O: Object, P: Pmem, G: Gate>(
 }
 
 /// The same where the object is a queue.
-fn run_queue<P: Pmem, G: Gate>(alloc: Global, bytes: &[u8], pair: Pair<P>, gate: &G) -> Ran<P>
+fn run_queue<R: Wait + Threads + Sync, P: Pmem + Send, G: Gate>(
+    rt: &R,
+    alloc: Global,
+    bytes: &[u8],
+    pair: Pair<P>,
+    gate: &G,
+) -> Ran<P>
     requires source { length bytes.now ≤ SOURCE_LIMIT }
     requires opened { IsOpened pair.device pair }
     requires kind { pair.head.kind ≡ Queue }
@@ -131,8 +153,8 @@ fn run_queue<P: Pmem, G: Gate>(alloc: Global, bytes: &[u8], pair: Pair<P>, gate:
         (StopsOn bytes.now pair.device (P.seen result.device)) }
 {
     match TwinQueue::adopt(alloc, pair) {
-        Ok(mut queue) => {
-            let served = run_found(alloc, bytes, &mut queue, gate);
+        Ok(queue) => {
+            let (queue, served) = run_found(rt, alloc, bytes, queue, gate);
             Ran {
                 served,
                 device: queue.close(),
@@ -143,20 +165,29 @@ fn run_queue<P: Pmem, G: Gate>(alloc: Global, bytes: &[u8], pair: Pair<P>, gate:
 }
 
 /// Judges the lines, settles the engine that was just opened, and runs the script.
-fn run_found<E: Engine, G: Gate>(
+fn run_found<R: Wait + Threads + Sync, E: Engine + Send, G: Gate>(
+    rt: &R,
     alloc: Global,
     bytes: &[u8],
-    engine: &mut E,
+    mut engine: E,
     gate: &G,
-) -> Result<Requests, Stop>
+) -> (E, Result<Requests, Stop>)
     requires source { length bytes.now ≤ SOURCE_LIMIT }
-    requires unsure { (E.seen engine.old).sure ≡ false }
-    requires decided { (E.seen engine.old).doubt ≡ None }
-    ensures ok { IfOk result
-        (λ served. ServesFound (E.seen engine.old).standing.kind (E.seen engine.old) bytes.now (E.seen engine.new) served.asks.items served.outcomes.items) }
-    ensures err { IfErr result (StopsFound (E.seen engine.old).standing.kind (E.seen engine.old) bytes.now (E.seen engine.new)) }
+    requires unsure { (E.seen engine).sure ≡ false }
+    requires decided { (E.seen engine).doubt ≡ None }
+    ensures ok { IfOk result.1
+        (λ served. ServesFound (E.seen engine).standing.kind (E.seen engine) bytes.now (E.seen result.0) served.asks.items served.outcomes.items) }
+    ensures err { IfErr result.1 (StopsFound (E.seen engine).standing.kind (E.seen engine) bytes.now (E.seen result.0)) }
 {
-    let requests = read_requests(alloc, bytes, E::KIND, engine.clients())?;
-    engine.settle()?;
-    Ok(serve(engine, requests, gate))
+    let requests = match read_requests(alloc, bytes, E::KIND, engine.clients()) {
+        Ok(requests) => requests,
+        Err(stop) => return (engine, Err(stop)),
+    };
+    if engine.settle().is_err() {
+        return (engine, Err(Stop::DeviceFault));
+    }
+    match serve(rt, alloc, engine, requests, gate) {
+        Ok((engine, served)) => (engine, Ok(served)),
+        Err(engine) => (engine, Err(Stop::Memory)),
+    }
 }

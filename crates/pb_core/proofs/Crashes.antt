@@ -195,6 +195,7 @@ kept_by_crash {old} {new} {cut} {pick} is crash = go (left_of old image is left)
 pub keeps-crash : {old new : World} {cut pick : ℕ} {answer : Stepped} → IsWorld old → Crashes old cut pick new answer → IsWorld new
 keeps-crash {old} {new} {cut} {pick} is crash = subst IsWorld (sym crash.is) (record {
   memory_is = opened_memory m.start crash.kept m.answers is.memory_is.history.keeps (legal-front m.start crash.kept crash.lost (subst (IsLegal m.start) crash.whole (all_legal is.memory_is))) answered;
+  holder = tt;
   base = crash.stands;
   fits = new_steady (picked old.tale.base old.tale.log cut pick) (state_after m.start crash.kept) crash.stands;
 })

@@ -4,6 +4,7 @@ pub mod Beginning
 pub mod Calls
 pub mod Causes
 pub mod Crashes
+pub mod Determined
 pub mod Devices
 pub mod Entries
 pub mod Exactness
@@ -13,6 +14,10 @@ pub mod Holding
 pub mod Lists
 pub mod MemoryRuns
 pub mod Movers
+pub mod OneFresh
+pub mod OneRecord
+pub mod OneStep
+pub mod Plays
 pub mod Publishing
 pub mod Possible
 pub mod Runs

@@ -9,6 +9,7 @@ use Rattle.pb_pmem.specs.Crash.{IsCrashImage}
 use Rattle.pb_object.specs.declared.request.Kept.{Kept}
 use Rattle.pb_pmem.specs.declared.log.LogOp.{LogOp}
 use Rattle.pb_object.specs.History.{Entry, Round, History, after_round, state_after, IsLegal}
+use Rattle.pb_object.specs.Standing.{Standing}
 use Rattle.pb_layout.specs.declared.header.Header.{Header}
 use Rattle.pb_layout.specs.Covers.{Covers}
 use Rattle.pb_layout.specs.Doubt.{either_state}
@@ -49,6 +50,7 @@ fresh_is_world {head} {w} fresh =
     let stands = fresh-represents fresh in
     subst IsWorld (sym fresh.is) (record {
       memory_is = opens_memory (opened_memory (empty_for head) [] [] (length-replicate {A = List Kept} head.clients []) tt tt) refl;
+      holder = tt;
       base = stands;
       fits = new_steady (contents fresh.zeros (format_ops head fresh.first fresh.second)) (empty_for head) stands;
     })
@@ -206,8 +208,76 @@ kept_images w answers is noted image left = go (left_of w image is left)
       answered = subst (λ (h : History). AreAnswered h (all_done answers)) (append_assoc m.past m.published (coming m.ahead)) (answered-more (m.past ++ m.published) (coming m.ahead) (all_done answers) answered);
     }
 
-pub one_history : (head : Header) (first last : World) (events : List Event) (answers : List Stepped) → IsFresh head first → Run first events answers last → IsOneHistory last answers
+-- The standing in which all began stays
+
+abbrev start_of : World → Standing
+start_of w = w.memory.start
+
+abbrev start_in : Memory → Standing
+start_in m = m.start
+
+starts-word : {old new : Memory} {c : ℕ} {answer : Stepped} → WordMove old c new answer → start_in new ≡ start_in old
+starts-word (storing move) = ap start_in move.is
+starts-word (announcing move) = ap start_in move.is
+starts-word (looking move) = ap start_in move.is
+starts-word (matching move) = ap start_in move.is
+starts-word (lacking_held move) = ap start_in move.is
+starts-word (lacking_free move) = ap start_in move.is
+starts-word (loading_code move) = ap start_in move.is
+starts-word (loading_value move) = ap start_in move.is
+starts-word (loading_extra move) = ap start_in move.is
+starts-word (confirming move) = ap start_in move.is
+starts-word (finding_new move) = ap start_in move.is
+starts-word (finding_held move) = ap start_in move.is
+starts-word (taking_sure move) = ap start_in move.is
+starts-word (taking_unsure move) = ap start_in move.is
+starts-word (missing move) = ap start_in move.is
+starts-word (passing_over move) = ap start_in move.is
+starts-word (meeting move) = ap start_in move.is
+starts-word (scanning_code move) = ap start_in move.is
+starts-word (scanning_first move) = ap start_in move.is
+starts-word (scanning_second move) = ap start_in move.is
+starts-word (scanning_own move) = ap start_in move.is
+starts-word (scanning_other move) = ap start_in move.is
+starts-word (filling move) = ap start_in move.is
+starts-word (publishing_own move) = ap start_in move.is
+starts-word (publishing_others move) = ap start_in move.is
+starts-word (noting move) = ap start_in move.is
+starts-word (giving_up move) = ap start_in move.is
+
+starts-silent : {old new : World} → Silent old new → start_of new ≡ start_of old
+starts-silent (begins_calls step) = ap start_of step.is ∙ ap start_in step.move.is
+starts-silent (ends_calls step) = ap start_of step.is ∙ ap start_in step.move.is
+starts-silent (begins_settling step) = ap start_of step.is
+starts-silent (ends_settling_none step) = ap start_of step.is ∙ ap start_in step.move.is
+starts-silent (ends_settling_round step) = ap start_of step.is ∙ ap start_in step.move.is
+starts-silent (opens step) = ap start_of step.is
+
+starts-silents : (count : ℕ) (old new : World) → Silents count old new → start_of new ≡ start_of old
+starts-silents zero old new same = ap start_of same
+starts-silents (suc count) old new (middle, first, more) = starts-silents count middle new more ∙ starts-silent first
+
+starts-moves : (old : World) (event : Event) (new : World) (answer : Stepped) → Moves old event new answer → start_of new ≡ start_of old
+starts-moves old (AskEvent ask) new answer step = ap start_of step.is ∙ ap start_in step.move.is
+starts-moves old (Step client) new answer (inl step) = ap start_of step.is ∙ starts-word step.move.move
+starts-moves old (Step client) new answer (inr step) = ap start_of step.is
+starts-moves old (Fail client how) new answer (inl step) = ap start_of step.is ∙ ap start_in step.move.is
+starts-moves old (Fail client how) new answer (inr (inl step)) = ap start_of step.is ∙ ap start_in step.move.is
+starts-moves old (Fail client how) new answer (inr (inr step)) = ap start_of step.is ∙ ap start_in step.move.is
+starts-moves old (Crash cut pick) new answer step = ap start_of step.is
+starts-moves old Reopen new answer (inl step) = ap start_of step.is
+starts-moves old Reopen new answer (inr step) = ap start_of step.is
+starts-moves old (ReopenFail how) new answer (inl step) = ap start_of step.is
+starts-moves old (ReopenFail how) new answer (inr step) = ap start_of step.is
+
+pub run_starts : (old : World) (events : List Event) (answers : List Stepped) (new : World) → Run old events answers new → start_of new ≡ start_of old
+run_starts old [] answers new (none, same) = ap start_of same
+run_starts old (event ∷ events) answers new (middle, answer, rest, all, next, run) =
+    run_starts middle events rest new run ∙ (starts-moves next.middle event middle answer next.move ∙ starts-silents next.silent old next.middle next.silents)
+
+pub one_history : (head : Header) (first last : World) (events : List Event) (answers : List Stepped) → IsFresh head first → Run first events answers last → IsOneHistory head last answers
 one_history head first last events answers fresh run = record {
+  start = run_starts first events answers last run ∙ ap start_of fresh.is;
   legal = is.memory_is.history.legal;
   once = numbers_stand_once last.memory.start (history last.memory) is.memory_is.history.keeps is.memory_is.history.legal;
   answered = subst (AreAnswered (history last.memory)) noted is.memory_is.answers_are;

@@ -1,5 +1,5 @@
 -- Each move keeps what holds of the world.
-use Rattle.std.proofs.Common.{◌≡◌, ℕ, zero, suc, ◌+◌, ◌*◌, List, [], ◌∷◌, ◌++◌, length, Option, Some, None, ap, subst, sym, refl, ◌∙◌, inl, inr}
+use Rattle.std.proofs.Common.{◌≡◌, ℕ, zero, suc, ◌+◌, ◌*◌, List, [], ◌∷◌, ◌++◌, length, Option, Some, None, ap, subst, sym, refl, ◌∙◌, inl, inr, ◌<◌}
 use Rattle.std.proofs.lemmas.List.{append-nil, append_assoc}
 use Rattle.pb_image.specs.declared.fail.How.{How}
 use Rattle.pb_pmem.specs.declared.log.LogOp.{LogOp}
@@ -16,7 +16,7 @@ use Rattle.pb_layout_laws.proofs.Histories.{state_after-append}
 use Rattle.pb_core.specs.declared.event.Event.{Event}
 use Rattle.pb_core.specs.declared.event.Event.TheVariants.{Ask as AskEvent, Step, Fail, Crash, Reopen, ReopenFail}
 use Rattle.pb_core.specs.declared.event.Stepped.{Stepped}
-use Rattle.pb_core.specs.DeviceParts.{with_log, IsSteady, IsUnsettled, Fits, opened_state, IsWorld}
+use Rattle.pb_core.specs.DeviceParts.{HoldsAsClient, with_log, IsSteady, IsUnsettled, Fits, opened_state, IsWorld}
 use Rattle.pb_core.specs.HolderMoves.{round_by, beginning, recording, settling_none, settling_round, failing_settling, failing_before, failing_after}
 use Rattle.pb_core.specs.Memory.{Owner, Free, Held, Closed, Work, NoWork, Settling, Scanning, Calling, Filling, AtNumber, Engine, Resting, Recorded, Writing, Doubtful, Memory, clients_of, shown, known, known_by, with_round, coming}
 use Rattle.pb_core.specs.MemoryParts.{IsMemory, Suits, SuitsWork, HasFilled, held_count}
@@ -112,9 +112,43 @@ opened-word (publishing_others move) = ap opened_state move.is
 opened-word (noting move) = ap opened_state move.is
 opened-word (giving_up move) = ap opened_state move.is
 
+-- the holder stays a client
+abbrev IsHeldAsClient : Memory → Type 0
+IsHeldAsClient m = HoldsAsClient m.owner (clients_of m)
+
+holder-word : {old new : Memory} {c : ℕ} {answer : Stepped} → c < clients_of old → WordMove old c new answer → IsHeldAsClient old → IsHeldAsClient new
+holder-word there (storing move) is = subst IsHeldAsClient (sym move.is) is
+holder-word there (announcing move) is = subst IsHeldAsClient (sym move.is) is
+holder-word there (looking move) is = subst IsHeldAsClient (sym move.is) is
+holder-word there (matching move) is = subst IsHeldAsClient (sym move.is) is
+holder-word there (lacking_held move) is = subst IsHeldAsClient (sym move.is) is
+holder-word there (lacking_free move) is = subst IsHeldAsClient (sym move.is) is
+holder-word there (loading_code move) is = subst IsHeldAsClient (sym move.is) is
+holder-word there (loading_value move) is = subst IsHeldAsClient (sym move.is) is
+holder-word there (loading_extra move) is = subst IsHeldAsClient (sym move.is) is
+holder-word there (confirming move) is = subst IsHeldAsClient (sym move.is) is
+holder-word there (finding_new move) is = subst IsHeldAsClient (sym move.is) is
+holder-word there (finding_held move) is = subst IsHeldAsClient (sym move.is) is
+holder-word there (taking_sure move) is = subst IsHeldAsClient (sym move.is) there
+holder-word there (taking_unsure move) is = subst IsHeldAsClient (sym move.is) there
+holder-word there (missing move) is = subst IsHeldAsClient (sym move.is) is
+holder-word there (passing_over move) is = subst IsHeldAsClient (sym move.is) is
+holder-word there (meeting move) is = subst IsHeldAsClient (sym move.is) is
+holder-word there (scanning_code move) is = subst IsHeldAsClient (sym move.is) is
+holder-word there (scanning_first move) is = subst IsHeldAsClient (sym move.is) is
+holder-word there (scanning_second move) is = subst IsHeldAsClient (sym move.is) is
+holder-word there (scanning_own move) is = subst IsHeldAsClient (sym move.is) is
+holder-word there (scanning_other move) is = subst IsHeldAsClient (sym move.is) is
+holder-word there (filling move) is = subst IsHeldAsClient (sym move.is) is
+holder-word there (publishing_own move) is = subst IsHeldAsClient (sym move.is) tt
+holder-word there (publishing_others move) is = subst IsHeldAsClient (sym move.is) tt
+holder-word there (noting move) is = subst IsHeldAsClient (sym move.is) is
+holder-word there (giving_up move) is = subst IsHeldAsClient (sym move.is) tt
+
 keeps-stepping : {old new : World} {c : ℕ} {answer : Stepped} → IsWorld old → StepsWord old c new answer → IsWorld new
 keeps-stepping {old} {new} {c} is step = subst IsWorld (sym step.is) (record {
   memory_is = keeps-word is.memory_is step.move;
+  holder = holder-word step.move.there step.move.move is.holder;
   base = subst (Represents old.tale.base) (sym (opened-word step.move.move)) is.base;
   fits = fits-word old.progress old.tale is.memory_is step.move.move is.fits;
 })
@@ -122,6 +156,7 @@ keeps-stepping {old} {new} {c} is step = subst IsWorld (sym step.is) (record {
 keeps-asking_world : {old new : World} {ask : Ask} {answer : Stepped} → IsWorld old → AsksWorld old ask new answer → IsWorld new
 keeps-asking_world {old} {new} {ask} is step = subst IsWorld (sym step.is) (record {
   memory_is = keeps-asking is.memory_is step.move;
+  holder = subst IsHeldAsClient (sym step.move.is) is.holder;
   base = subst (λ (m : Memory). Represents old.tale.base (opened_state m)) (sym step.move.is) is.base;
   fits = subst (FitsMemory old.progress old.tale) (sym step.move.is) is.fits;
 })
@@ -136,6 +171,7 @@ fits_in w engine now at known_at is =
 keeps-begins_calls : {old new : World} → IsWorld old → BeginsCalls old new → IsWorld new
 keeps-begins_calls {old} {new} is step = subst IsWorld (sym step.is) (record {
   memory_is = keeps-holder is.memory_is step.there (beginning step.move);
+  holder = subst IsHeldAsClient (sym step.move.is) is.holder;
   base = subst (λ (m : Memory). Represents old.tale.base (opened_state m)) (sym step.move.is) is.base;
   fits = subst (FitsMemory (InCall old.tale.log [] step.plan) old.tale) (sym step.move.is) (record {
     round = round;
@@ -164,6 +200,7 @@ keeps-begins_calls {old} {new} is step = subst IsWorld (sym step.is) (record {
 keeps-ends_calls : {old new : World} → IsWorld old → EndsCalls old new → IsWorld new
 keeps-ends_calls {old} {new} is step = subst IsWorld (sym step.is) (record {
   memory_is = keeps-holder is.memory_is step.there (recording step.move);
+  holder = subst IsHeldAsClient (sym step.move.is) is.holder;
   base = subst (λ (m : Memory). Represents old.tale.base (opened_state m)) (sym step.move.is) is.base;
   fits = subst (FitsMemory NoCall old.tale) (sym step.move.is) (writing_ends (fits_in old Writing (InCall step.entry step.made []) step.at (work_suits Calling is.memory_is step.move.holds step.move.at).0 is));
 })
@@ -171,6 +208,7 @@ keeps-ends_calls {old} {new} is step = subst IsWorld (sym step.is) (record {
 keeps-begins_settling : {old new : World} → IsWorld old → BeginsSettling old new → IsWorld new
 keeps-begins_settling {old} {new} is step = subst IsWorld (sym step.is) (record {
   memory_is = is.memory_is;
+  holder = is.holder;
   base = is.base;
   fits = subst (λ (e : Engine). Fits e (InCall old.tale.log [] (settling_plan m)) old.tale (opened_state m) m.published m.ahead) (sym doubtful) (record {
     log = sym (append-nil old.tale.log);
@@ -200,6 +238,7 @@ settled_none {w} is at doubtful none =
 keeps-ends_settling_none : {old new : World} → IsWorld old → EndsSettlingNone old new → IsWorld new
 keeps-ends_settling_none {old} {new} is step = subst IsWorld (sym step.is) (record {
   memory_is = keeps-holder is.memory_is step.there (settling_none step.move);
+  holder = subst IsHeldAsClient (sym step.move.is) is.holder;
   base = subst (λ (m : Memory). Represents old.tale.base (opened_state m)) (sym step.move.is) is.base;
   fits = subst (FitsMemory NoCall old.tale) (sym step.move.is) (settled_none is step.at (work_suits Settling is.memory_is step.move.holds step.move.at) step.move.none);
 })
@@ -207,6 +246,7 @@ keeps-ends_settling_none {old} {new} is step = subst IsWorld (sym step.is) (reco
 keeps-ends_settling_round : {old new : World} → IsWorld old → EndsSettlingRound old new → IsWorld new
 keeps-ends_settling_round {old} {new} is step = subst IsWorld (sym step.is) (record {
   memory_is = keeps-holder is.memory_is step.there (settling_round step.move);
+  holder = subst IsHeldAsClient (sym step.move.is) is.holder;
   base = subst (λ (m : Memory). Represents old.tale.base (opened_state m)) (sym step.move.is) is.base;
   fits = subst (FitsMemory NoCall old.tale) (sym step.move.is) (settled is step.at (work_suits Settling is.memory_is step.move.holds step.move.at));
 })
@@ -240,6 +280,7 @@ opens_memory {m} is closed = record {
 keeps-opens : {old new : World} → IsWorld old → Opens old new → IsWorld new
 keeps-opens {old} {new} is step = subst IsWorld (sym step.is) (record {
   memory_is = opens_memory is.memory_is step.closed;
+  holder = tt;
   base = is.base;
   fits = settled_none is step.at suits.1 suits.2;
 })
@@ -282,6 +323,7 @@ fits-call Doubtful tale s rounds ahead entry made left op fits = record {
 call_made : {w : World} (entry made : List LogOp) (op : LogOp) (left : List LogOp) → IsWorld w → w.progress ≡ InCall entry made (op ∷ left) → IsWorld (record w { tale = with_op op w.tale; progress = InCall entry (made ++ op ∷ []) left })
 call_made {w} entry made op left is at = record {
   memory_is = is.memory_is;
+  holder = is.holder;
   base = is.base;
   fits = fits-call w.memory.engine w.tale (opened_state w.memory) w.memory.published w.memory.ahead entry made left op (subst (λ (p : Progress). FitsMemory p w.tale w.memory) at is.fits);
 }
@@ -291,6 +333,7 @@ call_made {w} entry made op left is at = record {
 keeps-fails_to_settle : {old new : World} {c : ℕ} {how : How} {answer : Stepped} → IsWorld old → FailsToSettle old c how new answer → IsWorld new
 keeps-fails_to_settle {old} {new} {c} {how} is step = subst IsWorld (sym step.is) (record {
   memory_is = keeps-holder is.memory_is step.there (failing_settling step.move);
+  holder = subst IsHeldAsClient (sym step.move.is) is.holder;
   base = subst (λ (m : Memory). Represents old.tale.base (opened_state m)) (sym step.move.is) is.base;
   fits = subst (FitsMemory NoCall (failed how step.op old.tale)) (sym step.move.is) (subst (λ (e : Engine). Fits e NoCall (failed how step.op old.tale) (opened_state old.memory) old.memory.published old.memory.ahead) (sym doubtful) (settling_fails how step.op (fits_in old Doubtful (InCall step.entry step.made (step.op ∷ step.left)) step.at doubtful is)));
 })
@@ -301,6 +344,7 @@ keeps-fails_to_settle {old} {new} {c} {how} is step = subst IsWorld (sym step.is
 keeps-fails_to_stage : {old new : World} {c : ℕ} {how : How} {answer : Stepped} → IsWorld old → FailsToStage old c how new answer → IsWorld new
 keeps-fails_to_stage {old} {new} {c} {how} is step = subst IsWorld (sym step.is) (record {
   memory_is = keeps-holder is.memory_is step.there (failing_before step.move);
+  holder = subst IsHeldAsClient (sym step.move.is) is.holder;
   base = subst (λ (m : Memory). Represents old.tale.base (opened_state m)) (sym step.move.is) is.base;
   fits = subst (FitsMemory NoCall (failed how step.op old.tale)) (sym step.move.is) (staging_fails how step.op step.more step.round step.ahead (fits_in old Writing (InCall step.entry step.made (step.op ∷ (step.more ++ last_calls (state_after (opened_state old.memory) old.memory.published) step.round))) at (work_suits Calling is.memory_is step.move.holds step.move.at).0 is));
 })
@@ -312,6 +356,7 @@ keeps-fails_to_stage {old} {new} {c} {how} is step = subst IsWorld (sym step.is)
 keeps-fails_to_commit : {old new : World} {c : ℕ} {how : How} {answer : Stepped} → IsWorld old → FailsToCommit old c how new answer → IsWorld new
 keeps-fails_to_commit {old} {new} {c} {how} is step = subst IsWorld (sym step.is) (record {
   memory_is = keeps-holder is.memory_is step.there (failing_after step.move);
+  holder = subst IsHeldAsClient (sym step.move.is) is.holder;
   base = subst (λ (m : Memory). Represents old.tale.base (opened_state m)) (sym step.move.is) is.base;
   fits = subst (FitsMemory NoCall (failed how step.op old.tale)) (sym step.move.is) (subst (λ (a : Option Round). IsUnsettled (failed how step.op old.tale) (opened_state old.memory) old.memory.published a) (sym step.ahead) (committing_fails how step.op step.before step.left step.round step.ahead (ap (λ (s : Standing). last_calls s step.round) (sym (shown_is old.memory)) ∙ step.last) (fits_in old Writing (InCall step.entry step.made (step.op ∷ step.left)) step.at (work_suits Calling is.memory_is step.move.holds step.move.at).0 is)));
 })
@@ -321,6 +366,7 @@ keeps-fails_to_commit {old} {new} {c} {how} is step = subst IsWorld (sym step.is
 keeps-reads_region : {old new : World} {answer : Stepped} → IsWorld old → ReadsRegion old new answer → IsWorld new
 keeps-reads_region {old} {new} is step = subst IsWorld (sym step.is) (record {
   memory_is = is.memory_is;
+  holder = is.holder;
   base = is.base;
   fits = subst (λ (e : Engine). Fits e (InCall old.tale.log [] (settle_to (header_for step.standing) step.standing)) old.tale (opened_state m) m.published m.ahead) (sym suits.1) (record {
     log = sym (append-nil old.tale.log);
@@ -352,6 +398,7 @@ keeps-reads_region {old} {new} is step = subst IsWorld (sym step.is) (record {
 keeps-fails_to_reopen : {old new : World} {how : How} {answer : Stepped} → IsWorld old → FailsToReopen old how new answer → IsWorld new
 keeps-fails_to_reopen {old} {new} {how} is step = subst IsWorld (sym step.is) (record {
   memory_is = is.memory_is;
+  holder = is.holder;
   base = is.base;
   fits = subst (λ (e : Engine). Fits e NoCall (failed how step.op old.tale) (opened_state old.memory) old.memory.published old.memory.ahead) (sym suits.1) (settling_fails how step.op (fits_in old Doubtful (InCall step.entry step.made (step.op ∷ step.left)) step.at suits.1 is));
 })

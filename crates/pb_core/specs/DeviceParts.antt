@@ -1,5 +1,5 @@
 -- What holds of the device at each moment, by what is known of it.
-use Rattle.std.specs.Prelude.{◌≡◌, List, [], ◌∷◌, ◌++◌, Option, Some, None}
+use Rattle.std.specs.Prelude.{◌≡◌, ℕ, ◌<◌, List, [], ◌∷◌, ◌++◌, Option, Some, None}
 use Rattle.pb_pmem.specs.declared.log.LogOp.{LogOp}
 use Rattle.pb_pmem.specs.Device.{Tale}
 use Rattle.pb_object.specs.History.{Round, History, state_after}
@@ -10,7 +10,7 @@ use Rattle.pb_layout.specs.LogHistory.{LoggedRound, rounds_in, AreSealed}
 use Rattle.pb_layout.specs.Recovered.{Represents}
 use Rattle.pb_layout.specs.RegionOps.{settle_to}
 use Rattle.pb_layout.specs.Represents.{header_for}
-use Rattle.pb_core.specs.Memory.{Engine, Resting, Recorded, Writing, Doubtful, Memory, with_round, coming}
+use Rattle.pb_core.specs.Memory.{Owner, Free, Held, Closed, Engine, Resting, Recorded, Writing, Doubtful, Memory, clients_of, with_round, coming}
 use Rattle.pb_core.specs.MemoryParts.{IsMemory}
 use Rattle.pb_core.specs.World.{Progress, NoCall, InCall, World, IsRoundPlan}
 
@@ -66,8 +66,15 @@ Fits Doubtful (InCall entry made left) tale s rounds ahead = IsSettling tale s r
 abbrev pub opened_state : Memory → Standing
 opened_state m = state_after m.start m.past
 
+-- the holder of the turn is one of the clients
+abbrev pub HoldsAsClient : Owner → ℕ → Type 0
+HoldsAsClient Free clients = Unit {0}
+HoldsAsClient (Held client side) clients = client < clients
+HoldsAsClient Closed clients = Unit {0}
+
 -- What holds of the world
 pub record IsWorld (w : World) : Type 0 where
   pub memory_is : IsMemory w.memory
+  pub holder : HoldsAsClient w.memory.owner (clients_of w.memory)
   pub base : Represents w.tale.base (opened_state w.memory)
   pub fits : Fits w.memory.engine w.progress w.tale (opened_state w.memory) w.memory.published w.memory.ahead

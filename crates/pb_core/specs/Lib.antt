@@ -10,3 +10,4 @@ pub mod WorldMoves
 pub mod HolderMoves
 pub mod MemoryParts
 pub mod MemoryRun
+pub mod Play

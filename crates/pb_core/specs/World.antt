@@ -1,5 +1,5 @@
 -- The world: what stands in memory, and the device with the calls that are being made.
-use Rattle.std.specs.Prelude.{◌≡◌, ℕ, ◌+◌, ◌<◌, List, [], ◌∷◌, ◌++◌, length}
+use Rattle.std.specs.Prelude.{◌≡◌, ℕ, suc, ◌+◌, ◌-◌, ◌<◌, List, [], ◌∷◌, ◌++◌, drop, length}
 use Rattle.std.specs.List.{AllByRecursion}
 use Rattle.pb_pmem.specs.declared.line.Line.{Line}
 use Rattle.pb_pmem.specs.declared.log.LogOp.{LogOp}
@@ -7,12 +7,12 @@ use Rattle.pb_pmem.specs.declared.log.LogOp.TheVariants.{Whole, Word, Back, Fenc
 use Rattle.pb_pmem.specs.Contents.{contents}
 use Rattle.pb_pmem.specs.Device.{Tale}
 use Rattle.pb_pmem.specs.Lines.{line_at}
-use Rattle.pb_object.specs.History.{Round}
-use Rattle.pb_object.specs.Object.{State}
+use Rattle.pb_object.specs.History.{Round, after_round}
+use Rattle.pb_object.specs.Object.{State, Registers, Items, Rising, Waits}
 use Rattle.pb_object.specs.Standing.{Standing, rounds_of}
 use Rattle.pb_layout.specs.declared.header.Header.{Header}
 use Rattle.pb_layout.specs.Cell.{cell_line_of}
-use Rattle.pb_layout.specs.NextRecord.{IsNextRecord, HasCells}
+use Rattle.pb_layout.specs.NextRecord.{IsNextRecord, HasCells, next_position}
 use Rattle.pb_layout.specs.PutCell.{put_cell_ops, IsFreePosition}
 use Rattle.pb_layout.specs.RegionOps.{spare_place, store_by}
 use Rattle.pb_layout.specs.Represents.{header_for}
@@ -40,6 +40,23 @@ abbrev pub cell_ops : Header → List Put → List LogOp
 cell_ops head [] = []
 cell_ops head (put ∷ puts) = put_cell_ops head put.position (cell_line_of put.position put.value) ++ cell_ops head puts
 
+-- items at the positions from one on
+abbrev pub puts_at : ℕ → List ℕ → List Put
+puts_at position [] = []
+puts_at position (item ∷ items) = record { position = position; value = item } ∷ puts_at (suc position) items
+
+-- the items that wait now and didn't before: those that were put in between, where none of them was taken. Other objects have no cells
+abbrev pub puts_between : State → State → List Put
+puts_between before (Registers registers) = []
+puts_between before (Items size items) = []
+puts_between before (Rising size items) = []
+puts_between before (Waits size queue) =
+    puts_at (next_position before) (drop (next_position before - queue.taken) queue.items)
+
+-- the items that a round puts
+abbrev pub puts_of : Standing → Round → List Put
+puts_of s round = puts_between s.state (after_round s round).state
+
 abbrev pub AreFree : State → List Put → Type 0
 AreFree state [] = Unit {0}
 AreFree state (put ∷ puts) = IsFreePosition state put.position × AreFree state puts
@@ -52,10 +69,11 @@ WritesLine first lines (Back at count) = ⊥
 WritesLine first lines Fence = ⊥
 WritesLine first lines Sync = ⊥
 
--- the calls of a round, over a device that holds s: the cells of the items that it puts; lines of the next record where the spare one is, each
+-- the calls of a round, over a device that holds s: the cells of the items that it puts, and no others; lines of the next record where the spare one is, each
 -- that differs and perhaps others, in any order and any number of times; and then the store's last calls
 pub record IsRoundPlan (tale : Tale) (s : Standing) (round : Round) (plan : List LogOp) : Type 0 where
   pub puts : List Put
+  pub its_own : puts ≡ puts_of s round
   pub free : AreFree s.state puts
   pub cells : HasCells tale.base (tale.log ++ cell_ops (header_for s) puts) s round
   pub lines : List Line

@@ -11,6 +11,7 @@ ghost use Rattle.pb_core.specs.Laws.{IsOneHistory, IsToldByLog, IsCaused, IsScan
 ghost use Rattle.pb_core.specs.Memory.{Memory, clients_of};
 ghost use Rattle.pb_core.specs.MemoryParts.{IsMemory};
 ghost use Rattle.pb_core.specs.MemoryRun.{begun, MemoryRun};
+ghost use Rattle.pb_core.specs.Play.{Play};
 ghost use Rattle.pb_core.specs.Possible.{IsExact};
 ghost use Rattle.pb_core.specs.World.{World};
 ghost use Rattle.pb_core.specs.WorldMoves.{Next, Run};
@@ -48,13 +49,13 @@ pub fn a_scan_sees_a_legal_round()
         → IsScannedRound old client new begins }
 {}
 
-/// Over any events, in any order, with crashes anywhere: there is one legal history, no request stands in it twice, each answered request
+/// Over any events, in any order, with crashes anywhere: there is one legal history of the object that was formatted, no request stands in it twice, each answered request
 /// stands in it with its reply, and so it does in what each further crash may leave.
 pub fn every_run_has_one_history()
     ensures { (head : Header) (first last : World) (events : List Event) (answers : List Stepped)
         → IsFresh head first
         → Run first events answers last
-        → IsOneHistory last answers }
+        → IsOneHistory head last answers }
 {}
 
 /// That history is no record of the world's own: the device's log tells it, and covers it.
@@ -69,11 +70,29 @@ pub fn events_are_possible_exactly()
     ensures { (w : World) → IsWorld w → IsExact w }
 {}
 
-/// A client that is answered without a reply is told the cause: two turn words that differ, or the word of a turn that is held, or a
-/// count of faults that rose to what it is.
+/// A client that is answered without a reply is told the cause: the turn word that it met first and the one that stands now, which differ,
+/// or of which the second is of a turn that is held; or the count of faults before and after the call that failed while it held the turn.
 pub fn each_answer_has_its_cause()
     ensures { (old : World) (event : Event) (new : World) (answer : Stepped)
         → IsWorld old
         → Next old event new answer
-        → IsCaused answer new.memory }
+        → IsCaused answer old.memory new.memory }
+{}
+
+/// What is played is a run of the world: playing only takes choices that the core leaves.
+pub fn what_is_played_is_a_run()
+    ensures { (old : World) (events : List Event) (answers : List Stepped) (new : World)
+        → Play old events answers new
+        → Run old events answers new }
+{}
+
+/// What is played is determined: the world over a region that was just formatted is one, and from any world the same events make one
+/// world, with the same answers.
+pub fn what_is_played_is_determined()
+    ensures first { (head : Header) (first other : World) → IsFresh head first → IsFresh head other → first ≡ other }
+    ensures played { (old : World) (events : List Event) (answers others : List Stepped) (new other : World)
+        → IsWorld old
+        → Play old events answers new
+        → Play old events others other
+        → (new ≡ other) × (answers ≡ others) }
 {}

@@ -1,11 +1,11 @@
 -- What calls of an engine come to, one after the other.
-use Rattle.std.proofs.Common.{◌≡◌, ◌⊎◌, ℕ, ◌+◌, ◌≤◌, Bool, true, false, List, [], ◌∷◌, ◌++◌, length, Option, Some, None, IfSome, option_map, refl, sym, ap, subst, ◌∙◌, inl, inr, arith, length-append, ◌≢◌, ◌<◌, zero, suc}
+use Rattle.std.proofs.Common.{◌≡◌, ◌⊎◌, ℕ, min, ◌+◌, ◌≤◌, Bool, true, false, List, [], ◌∷◌, ◌++◌, length, Option, Some, None, IfSome, option_map, refl, sym, ap, subst, ◌∙◌, inl, inr, arith, length-append, ◌≢◌, ◌<◌, zero, suc}
 use Rattle.std.proofs.Math.Seq.{take-append_seam}
 use Rattle.std.proofs.lemmas.Bool.{cases_eq}
 use Rattle.std.proofs.lemmas.List.{append-nil, append_assoc}
 use Rattle.pb_pmem.specs.declared.device.DeviceFault.{DeviceFault}
 use Rattle.pb_pmem.specs.declared.log.LogOp.{LogOp}
-use Rattle.pb_pmem.specs.Count.{Rose}
+use Rattle.pb_pmem.specs.Count.{Rose, last_count}
 use Rattle.pb_pmem.specs.Device.{Device, Tale}
 use Rattle.pb_pmem.specs.Operations.{with_ops, IsFailedPrefix}
 use Rattle.pb_object.specs.History.{Round, History, after_round, state_after, IsLegalRound, IsLegal}
@@ -27,10 +27,12 @@ use Rattle.pb_layout_laws.proofs.ReadyWithOne.{only_member}
 use Rattle.pb_layout_laws.proofs.Settling.{settling_failing}
 use Rattle.pb_layout_laws.proofs.ToldCalls.{told_exit, told_then, told_then_sealed, nothing_told, sealed_after, sealed_then, after_then, if_told, from_told}
 use Rattle.pb_engine.specs.Covers.{RoundCovers, FailedRoundCovers, SettleCovers, FailedSettleCovers}
-use Rattle.pb_engine.specs.Good.{BeginsAt, IsInDoubtAfter, IsDecidedAfter, settlings, HasCost, IsQuiet, HasCome, with_doubt, settled_rounds}
+use Rattle.pb_engine.specs.Calls.{HasCalled, with_doubt, settled_rounds}
+use Rattle.pb_engine.specs.Good.{BeginsAt, IsInDoubtAfter, IsDecidedAfter, settlings, HasCost, IsQuiet, HasCome}
 use Rattle.pb_engine.specs.Operations.{round_ops}
 use Rattle.pb_engine.specs.Outcomes.{stored_over, stored_on_first, stored_on_second, HasMade, HasFailedToMake, HasSettled, HasFailedToSettle}
 use Rattle.pb_engine.specs.View.{FailedRound, EngineView, was_called, settled_by, settled_standing, KnownRecords, IsKnown, AreKnown, IsHeld}
+use Rattle.pb_engine.proofs.Called.{none_called, round_called, failure_called, settling_called, failed_settling_called}
 use Rattle.pb_engine.proofs.Costs.{fences-append, syncs-append, round_fences, round_syncs, settling_fences, settling_syncs}
 use Rattle.pb_pmem.specs.declared.line.Line.{Line}
 
@@ -73,6 +75,8 @@ at_start start = record {
   count = omega arith;
   calm = λ none. refl;
   rose = λ some. absurd (some refl);
+  each = omega arith;
+  called = none_called start;
   quiet = λ calm. record { sure = λ sure. sure; doubt = λ none. none; known = λ sure known. known; holds = λ none held. held };
   covered = λ tale members begins. record {
     decided = λ uncalled. decided_at_start tale members start start.sure refl begins;
@@ -150,6 +154,8 @@ after_round_made start old new rounds failures round come legal sure none made c
   count = omega (arith, come.count, made.device.faults);
   calm = λ calm. made.device.faults ∙ come.calm calm;
   rose = λ some. subst (Rose start.device.faults) (sym made.device.faults) (come.rose some);
+  each = omega (arith, come.each, made.device.faults);
+  called = round_called start old new rounds failures come.called come.standing round sure made;
   quiet = λ calm.
       let before = come.quiet calm in
       record {
@@ -190,6 +196,10 @@ most_then : (first second third : ℕ) → first ≤ second → Rose second thir
 most_then first second third most (inl less) = omega arith
 most_then first second third most (inr last) = omega (arith, last.0, last.1)
 
+one_failed : (first second third failures : ℕ) → min (first + failures) last_count ≤ second → Rose second third → min (first + (failures + 1)) last_count ≤ third
+one_failed first second third failures most (inl less) = omega (arith, most, less)
+one_failed first second third failures most (inr last) = omega (arith, most, last.0, last.1)
+
 -- a round in doubt after sealed ones
 doubt_after : (tale : Tale) (old new : EngineView) (s : Standing) (rounds : History) (round : Round) (after : IsSealedAfter tale old.device s rounds) → old.standing ≡ state_after s rounds → IsInDoubt (with_ops after.left.ops tale) new.device old.standing round → IsInDoubtAfter tale new.device s rounds round
 doubt_after tale old new s rounds round after standing doubt =
@@ -225,6 +235,8 @@ after_round_failed start old new rounds failures round fault come sure none fail
   count = most_then start.device.faults old.device.faults new.device.faults come.count failed.device.stops.rose;
   calm = λ calm. absurd (omega (arith, calm));
   rose = λ some. rose;
+  each = one_failed start.device.faults old.device.faults new.device.faults failures come.each failed.device.stops.rose;
+  called = failure_called start old new rounds failures come.called come.standing round fault sure failed;
   quiet = λ calm. absurd (omega (arith, calm));
   covered = λ tale members begins.
       let after = sealed_so_far tale members start old rounds failures come sure none begins in
@@ -335,6 +347,12 @@ after_settled start old new rounds failures come legal unsure settled covers = b
     rose : failures ≢ 0 → Rose start.device.faults new.device.faults
     rose some = subst (Rose start.device.faults) (sym settled.device.faults) (come.rose some)
 
+    each : min (start.device.faults + failures) last_count ≤ new.device.faults
+    each = omega (arith, come.each, settled.device.faults)
+
+    called : HasCalled start new (settled_rounds rounds old.doubt) failures
+    called = settling_called start old new rounds failures come.called come.standing unsure settled
+
     settled_held : old.doubt ≡ None → IsHeld old → IsHeld new
     settled_held none held = record { stands = settled.holds none held.stands; in_use = settled.in_use none held.in_use }
 
@@ -369,6 +387,8 @@ after_settled start old new rounds failures come legal unsure settled covers = b
       count = count;
       calm = calm;
       rose = rose;
+      each = each;
+      called = subst (λ (d : Option FailedRound). HasCalled start new (settled_rounds rounds d) failures) none called;
       quiet = quiet;
       covered = λ tale members begins. record {
         decided = λ uncalled. inl (settled_found tale members old new start.standing rounds come.standing (covers.found (ap was_called none)) ((come.covered tale members begins).decided (ap was_called none)));
@@ -382,6 +402,8 @@ after_settled start old new rounds failures come legal unsure settled covers = b
       count = count;
       calm = calm;
       rose = rose;
+      each = each;
+      called = subst (λ (d : Option FailedRound). HasCalled start new (settled_rounds rounds d) failures) is called;
       quiet = quiet;
       covered = λ tale members begins. record {
         decided = λ uncalled. inl (by_called failed.called refl tale members begins);
@@ -463,6 +485,8 @@ after_settling_failed start old new rounds failures fault come unsure failed cov
   count = most_then start.device.faults old.device.faults new.device.faults come.count failed.device.stops.rose;
   calm = λ calm. absurd (omega (arith, calm));
   rose = λ some. rose;
+  each = one_failed start.device.faults old.device.faults new.device.faults failures come.each failed.device.stops.rose;
+  called = failed_settling_called start old new rounds failures come.called come.standing fault unsure failed;
   quiet = λ calm. absurd (omega (arith, calm));
   covered = λ tale members begins. record {
     decided = λ uncalled.

@@ -27,6 +27,7 @@ use Rattle.pb_pair.proofs.Told.{told_now}
 use Rattle.pb_engine.specs.Good.{BeginsAt, IsInDoubtAfter, IsDecidedAfter, IsCovered, settlings, HasCome}
 use Rattle.pb_engine.specs.Opening.{IsFresh, IsAdopted, IsAdoptRefusal}
 use Rattle.pb_engine.specs.View.{FailedRound, EngineView, was_called, settled_by, settled_standing}
+use Rattle.pb_engine.proofs.Called.{called_on}
 use Rattle.pb_engine.proofs.Coming.{ready_then, sealed_still, rises}
 use Rattle.pb_engine.proofs.Costs.{fences-append, syncs-append}
 use Rattle.pb_pmem.specs.declared.device.DeviceFault.{DeviceFault}
@@ -193,6 +194,8 @@ come_on first middle last rounds more failures others one none two = record {
     | inl nothing ↦ rises first.device.faults middle.device.faults last.device.faults one.count (two.rose (λ no_others. some (omega (arith, nothing, no_others))))
     | inr before ↦ rose_on first.device.faults middle.device.faults last.device.faults (one.rose before) two.count
   ];
+  each = omega (arith, one.each, two.each);
+  called = called_on first middle last rounds more failures others one.called one.standing two.called;
   quiet = λ calm.
       let before = one.quiet (calm_before calm) in
       let after = two.quiet (calm_after calm) in

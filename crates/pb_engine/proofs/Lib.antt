@@ -1,3 +1,4 @@
+pub mod Called
 pub mod Coming
 pub mod Costs
 pub mod Entries

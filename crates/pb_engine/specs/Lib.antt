@@ -1,4 +1,5 @@
 pub mod Asks
+pub mod Calls
 pub mod Covers
 pub mod Good
 pub mod Next

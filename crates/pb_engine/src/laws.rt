@@ -7,7 +7,8 @@ ghost use Rattle.pb_object.specs.History.{Round, History, IsLegalRound, kept_by,
 ghost use Rattle.pb_object.specs.Standing.{Standing, newest_of, side_count};
 ghost use Rattle.pb_engine.specs.Asks.{MayBeServed, asked_round};
 ghost use Rattle.pb_engine.specs.Covers.{RoundCovers, FailedRoundCovers, SettleCovers, FailedSettleCovers};
-ghost use Rattle.pb_engine.specs.Good.{HasCome, settled_rounds, BeginsAt};
+ghost use Rattle.pb_engine.specs.Calls.{settled_rounds};
+ghost use Rattle.pb_engine.specs.Good.{HasCome, BeginsAt};
 ghost use Rattle.pb_engine.specs.Outcomes.{HasMade, HasFailedToMake, HasSettled, HasFailedToSettle};
 ghost use Rattle.pb_engine.specs.View.{EngineView, FailedRound, IsEngine, IsInUse, IsKnown, was_called};
 ghost use Rattle.pb_pmem.specs.Device.{Device, Tale, IsReplay};

@@ -20,10 +20,13 @@ const BAD: [&str; 9] = [
     "pb_file_tests_paths/link",
 ];
 
-const CALLS: [Row; 3] = [
+// Under `run` lines are judged behind the opening, and under `fresh` before the device is called.
+const CALLS: [Row<'static>; 5] = [
     ("report", "", "device fault\n", 6),
     ("run", "0 1 get 0\n", "device fault\n", 6),
+    ("run", "x\n", "device fault\n", 6),
     ("fresh map 1 4", "0 1 get 0\n", "device fault\n", 6),
+    ("fresh map 1 4", "x\n", "line 1\n", 3),
 ];
 
 fn make_files(rt: &(impl Abort + Files + AllocGlobal)) {
@@ -50,6 +53,34 @@ fn other_paths_are_left_as_they_are(rt: HostRuntime) {
     assert_eq!(rt; length(&rt, "pb_file_tests_paths/empty"), 0u64);
     assert_eq!(rt; count_names(&rt, FOLDER), 4usize);
     fs::remove_dir_all(&rt, FOLDER).expect(&rt, "the folder");
+}
+
+const REFUSED: &str = "pb_file_tests_refused";
+
+// A script with one request line more than it may have.
+fn too_many_lines(rt: &(impl Abort + AllocGlobal)) -> String {
+    let mut lines = String::new(rt.alloc());
+    for _ in 0..32_769u32 {
+        lines.push_str("0 1 get 0\n").expect(rt, "memory");
+    }
+    lines
+}
+
+#[test]
+fn a_call_that_is_refused_before_makes_no_file(rt: HostRuntime) {
+    make_folder(&rt, REFUSED);
+    let many = too_many_lines(&rt);
+    for row in [
+        ("run", many.as_str(), "many\n", 3),
+        ("fresh map 1 4", many.as_str(), "many\n", 3),
+        ("fresh map 1 4", "x\n", "line 1\n", 3),
+        ("run now", "", "usage\n", 2),
+    ] {
+        let device = FileDev::new(&rt, "pb_file_tests_refused/region").expect(&rt, "memory");
+        call(&rt, rt.alloc(), device, &row);
+    }
+    assert_eq!(rt; count_names(&rt, REFUSED), 0usize);
+    fs::remove_dir_all(&rt, REFUSED).expect(&rt, "the folder");
 }
 
 const LATER: &str = "pb_file_tests_later";

@@ -11,7 +11,7 @@ const PATH: &str = "pb_file_tests_rows/region";
 
 const FIRST: &str = "0 1 put 3 77\n0 2 get 3\n";
 
-const ROWS: [Row; 7] = [
+const ROWS: [Row<'static>; 7] = [
     ("report", "", "none\n", 7),
     (
         "fresh map 1 4",

@@ -6,9 +6,11 @@ use std::alloc::Global;
 use std::fs;
 use std::fs::Files;
 use std::process::Abort;
+use std::sync::Wait;
+use std::thread::Threads;
 
 /// A call: its words, its source, what it prints, and its status.
-pub type Row = (&'static str, &'static str, &'static str, u8);
+pub type Row<'a> = (&'a str, &'a str, &'a str, u8);
 
 /// Makes an empty folder for a test, also where an earlier run left one.
 pub fn make_folder(rt: &(impl Abort + Files + AllocGlobal), folder: &str) {
@@ -17,7 +19,12 @@ pub fn make_folder(rt: &(impl Abort + Files + AllocGlobal), folder: &str) {
 }
 
 /// Makes a row's call over a device.
-pub fn call<P: Pmem + Send>(rt: &impl Abort, alloc: Global, device: P, row: &Row) {
+pub fn call<P: Pmem + Send>(
+    rt: &(impl Abort + Wait + Threads + Sync),
+    alloc: Global,
+    device: P,
+    row: &Row<'_>,
+) {
     let (line, script, text, status) = *row;
     let mut words = Vec::new(alloc);
     for word in line.split_whitespace() {
@@ -26,7 +33,7 @@ pub fn call<P: Pmem + Send>(rt: &impl Abort, alloc: Global, device: P, row: &Row
     }
     let mut source = ByteSource::new(alloc, script.as_bytes(), 4096, &[]).expect(rt, "memory");
     let mut sink = ByteSink::new(alloc, 4096, 4096, &[]).expect(rt, "memory");
-    let done = top(alloc, &words, &mut source, &mut sink, device, &OpenGate);
+    let done = top(rt, alloc, &words, &mut source, &mut sink, device, &OpenGate);
     let is_said = sink.bytes() == text.as_bytes() && done.status.code() == status;
     assert!(rt; is_said, "{line}: {text}");
 }

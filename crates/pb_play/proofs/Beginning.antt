@@ -13,10 +13,10 @@ use Rattle.pb_object.specs.Codes.{action_of, action_side}
 use Rattle.pb_object.specs.History.{Entry, Round, after_entry, after_entries, after_round}
 use Rattle.pb_object.specs.Standing.{Standing, newest_of, rounds_of}
 use Rattle.pb_layout.specs.declared.header.Header.{Header}
-use Rattle.pb_layout.specs.NextRecord.{IsNextRecord}
+use Rattle.pb_layout.specs.NextRecord.{IsNextRecord, next_position}
 use Rattle.pb_layout.specs.Recovered.{Represents}
 use Rattle.pb_layout.specs.RegionOps.{store_over}
-use Rattle.pb_layout.specs.Represents.{record_in_use}
+use Rattle.pb_layout.specs.Represents.{header_for, record_in_use}
 use Rattle.pb_layout.proofs.OneRecovery.{parts}
 use Rattle.pb_core.specs.DeviceParts.{IsWorld, IsSteady, opened_state}
 use Rattle.pb_core.specs.HolderMoves.{entries_by, round_by, Begins}
@@ -27,7 +27,7 @@ use Rattle.pb_core.specs.World.{Progress, NoCall, InCall, World, IsRoundPlan}
 use Rattle.pb_core.specs.WorldMoves.{begins_calls}
 use Rattle.pb_core.proofs.Devices.{steady_holds}
 use Rattle.pb_core.proofs.Holding.{begins_due, begins_own}
-use Rattle.pb_core.proofs.Possible.{one_silent, plan_first}
+use Rattle.pb_core.proofs.Possible.{plan_first}
 use Rattle.pb_core.proofs.Scans.{known_shown, meets_some}
 use Rattle.pb_core.proofs.Turns.{work_suits}
 use Rattle.pb_core.proofs.Worlds.{fits_in, shown_is}
@@ -40,7 +40,9 @@ use Rattle.pb_play.specs.declared.seat.Seat.{Seat}
 use Rattle.pb_play.specs.declared.work.Part.TheVariants.{AtNumber}
 use Rattle.pb_play.specs.declared.work.Work.TheVariants.{Scanning}
 use Rattle.pb_play.specs.declared.world.World.{World as CodeWorld}
-use Rattle.pb_play.specs.Device.{ShowsProgress, IsCallable}
+use Rattle.pb_play.specs.Device.{ShowsProgress}
+use Rattle.pb_core.specs.Play.{IsCallable, IsReady, IsPlayedPlan, silently}
+use Rattle.pb_engine.specs.Operations.{cell_ops}
 use Rattle.pb_play.specs.Rounds.{RepeatsRows, with_rows, asks_of, MayBegin, MakesRecord}
 use Rattle.pb_play.specs.Seats.{begins_round, seat_at}
 use Rattle.pb_play.specs.Shown.{ShowsSeat, rows_for, IsRowOf, ShowsMemory}
@@ -50,7 +52,7 @@ use Rattle.pb_play.proofs.Fitting.{header_after}
 use Rattle.pb_play.proofs.NextRecords.{round_count, counted_side}
 use Rattle.pb_play.proofs.NextRows.{shows_next, row_next}
 use Rattle.pb_play.proofs.Rows.{length-rows}
-use Rattle.pb_play.proofs.RoundPlans.{is_planned}
+use Rattle.pb_play.proofs.RoundPlans.{is_planned, is_played_plan}
 use Rattle.pb_play.proofs.Scanning.{works_at}
 use Rattle.pb_play.proofs.Silently.{no_call}
 
@@ -147,15 +149,20 @@ pub record HasBegun (old new : CodeWorld) (side : ℕ) : Type 0 where
   pub device : new.device ≡ old.device
   pub head : new.head ≡ old.head
 
+-- a scan that is over isn't the next step
+over_scan : (w : World) {asks : List Ask} → w.memory.work ≡ core.Scanning (clients_of w.memory) core.AtNumber asks → IsReady w.memory.work (clients_of w.memory) w.progress → ⊥
+over_scan w {asks} at ready =
+    let below : clients_of w.memory < clients_of w.memory = subst (λ (x : core.Work). IsReady x (clients_of w.memory) w.progress) at ready in
+    omega (arith, below)
+
 -- a plan with a first call is to be made
 first_callable : (entry plan : List LogOp) → ((first : LogOp) × (rest : List LogOp) × (plan ≡ first ∷ rest)) → IsCallable (InCall entry [] plan)
 first_callable entry plan some = subst (λ (l : List LogOp). IsCallable (InCall entry [] l)) (sym some.2) tt
 
 pub begins_on : {old new : CodeWorld} {w : World} {client side : ℕ} → IsOver old w client side → HasBegun old new side → GoesOn w new
 begins_on {old} {new} {w} {client} {side} o b = record {
-  count = 1;
   middle = record { memory = next; tale = w.tale; progress = progress };
-  silents = one_silent (begins_calls (record { client = client; there = o.there; next = next; move = begin_move o; idle = no_call o.shows.device o.idle; plan = new.calls.plan.items; planned = planned; is = refl }));
+  before = silently (λ ready. over_scan w (begin_move o).at ready) (begins_calls (record { client = client; there = o.there; next = next; move = begin_move o; idle = no_call o.shows.device o.idle; plan = new.calls.plan.items; planned = planned; is = refl })) played;
   shows = record {
     memory = subst (λ (p : CodeMemory). ShowsMemory p next) (sym b.memory) shown_next;
     device = record {
@@ -199,18 +206,29 @@ begins_on {old} {new} {w} {client} {side} o b = record {
     progress : Progress
     progress = InCall w.tale.log [] new.calls.plan.items
 
+    counted : b.count ≡ rounds_of (shown m) (side_asked asks)
+    counted = b.counted ∙ (sym (counted_side (shown m) may) ∙ ap (rounds_of (shown m)) (sym may.side_is))
+
+    next_is : IsNextRecord (contents w.tale.base w.tale.log) (shown m) (asked_round (shown m) asks) new.next.items
+    next_is = subst (λ (ls : List Line). IsNextRecord ls (shown m) (asked_round (shown m) asks) new.next.items) (sym o.shows.device.lines) made.record_is
+
+    plan_is : new.calls.plan.items ≡ cell_ops (header_for (shown m)) (next_position (shown m).state) (after_round (shown m) (asked_round (shown m) asks)).state ++ store_over (header_for (shown m)) (side_asked asks) (rounds_of (shown m) (side_asked asks)) (Some (record_in_use (contents w.tale.base w.tale.log) (header_for (shown m)) (side_asked asks) (rounds_of (shown m) (side_asked asks) + 1))) new.next.items
+    plan_is = b.plan ∙ (λ i. made.cells_are i ++ store_over (sym may.head_is i) (sym may.side_is i) (counted i) (Some (record_in_use (sym o.shows.device.lines i) (sym may.head_is i) (sym may.side_is i) (counted i + 1))) new.next.items)
+
     -- the plan over the standing that is shown
     shown_plan : IsRoundPlan w.tale (shown m) (asked_round (shown m) asks) new.calls.plan.items
     shown_plan =
-        is_planned (shown m) (asked_round (shown m) asks) new.next.items new.calls.plan.items long (stands_in o)
-        (subst (λ (ls : List Line). IsNextRecord ls (shown m) (asked_round (shown m) asks) new.next.items) (sym o.shows.device.lines) made.record_is) made.step
-        (b.plan ∙ (λ i. made.cells_are i ++ store_over (sym may.head_is i) (sym may.side_is i) (counted i) (Some (record_in_use (sym o.shows.device.lines i) (sym may.head_is i) (sym may.side_is i) (counted i + 1))) new.next.items))
+        is_planned (shown m) (asked_round (shown m) asks) new.next.items new.calls.plan.items long (stands_in o) next_is made.step plan_is
       where
-        counted : b.count ≡ rounds_of (shown m) (side_asked asks)
-        counted = b.counted ∙ (sym (counted_side (shown m) may) ∙ ap (rounds_of (shown m)) (sym may.side_is))
-
         long : length w.tale.base ≡ LINES
         long = sym (length-contents w.tale.base w.tale.log) ∙ (stands_in o).whole
+
+    shown_played : IsPlayedPlan w.tale (shown m) (asked_round (shown m) asks) new.calls.plan.items
+    shown_played =
+        is_played_plan (shown m) (asked_round (shown m) asks) new.next.items new.calls.plan.items (stands_in o) next_is made.listed made.step plan_is
+
+    played : IsPlayedPlan w.tale (known m) round new.calls.plan.items
+    played = subst (λ (s : Standing). IsPlayedPlan w.tale s (round_by side s asks) new.calls.plan.items) (sym same_known) (subst (λ (r : Round). IsPlayedPlan w.tale (shown m) r new.calls.plan.items) same_round shown_played)
 
     planned : IsRoundPlan w.tale (known m) round new.calls.plan.items
     planned = subst (λ (s : Standing). IsRoundPlan w.tale s (round_by side s asks) new.calls.plan.items) (sym same_known) (subst (λ (r : Round). IsRoundPlan w.tale (shown m) r new.calls.plan.items) same_round shown_plan)

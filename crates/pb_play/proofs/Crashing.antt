@@ -14,6 +14,7 @@ use Rattle.pb_core.specs.DeviceParts.{IsWorld}
 use Rattle.pb_core.specs.Memory.{opened}
 use Rattle.pb_core.specs.Possible.{MayCrash}
 use Rattle.pb_core.specs.World.{NoCall, World}
+use Rattle.pb_core.specs.Play.{at_once}
 use Rattle.pb_core.proofs.Runs.{can_crash}
 use Rattle.pb_play.specs.declared.calls.Calls.{Calls}
 use Rattle.pb_play.specs.declared.device.Device.{Device}
@@ -36,9 +37,8 @@ crashes_to {old} {w} {memory} {calls} {device} cut pick is s may idle base_is li
     record {
       next = record { memory = opened w.memory.start crash.kept w.memory.answers; tale = record { base = image; log = [] }; progress = NoCall };
       step = record {
-        silent = 0;
         middle = w;
-        silents = refl;
+        before = at_once tt refl;
         move = record { low = may.low; high = may.high; kept = crash.kept; lost = crash.lost; whole = crash.whole; stands = crash.stands; is = refl; says = refl };
       };
       shows = record {

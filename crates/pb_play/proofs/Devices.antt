@@ -12,7 +12,8 @@ use Rattle.pb_core.specs.World.{Progress, NoCall, InCall}
 use Rattle.pb_core.proofs.Lists.{cut_on}
 use Rattle.pb_play.specs.declared.calls.Calls.{Calls}
 use Rattle.pb_play.specs.declared.device.Device.{Device}
-use Rattle.pb_play.specs.Device.{IsReached, ShowsProgress, ShowsDevice, IsCallable, MakesCall, FailsCall}
+use Rattle.pb_play.specs.Device.{IsReached, ShowsProgress, ShowsDevice, MakesCall, FailsCall}
+use Rattle.pb_core.specs.Play.{IsCallable}
 use Rattle.pb_play.specs.Shape.{AreWithin, IsDevice, AddsTo}
 
 -- What is added keeps the device whole

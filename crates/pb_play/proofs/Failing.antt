@@ -21,7 +21,8 @@ use Rattle.pb_play.specs.declared.calls.Calls.{Calls}
 use Rattle.pb_play.specs.declared.device.Device.{Device}
 use Rattle.pb_play.specs.declared.memory.Memory.{Memory as CodeMemory}
 use Rattle.pb_play.specs.declared.world.World.{World as CodeWorld}
-use Rattle.pb_play.specs.Device.{ShowsDevice, IsCallable, FailsCall}
+use Rattle.pb_play.specs.Device.{ShowsDevice, FailsCall}
+use Rattle.pb_core.specs.Play.{IsCallable}
 use Rattle.pb_play.specs.Seats as code
 use Rattle.pb_play.specs.Shown.{ShowsMemory}
 use Rattle.pb_play.specs.Worlds.{ShowsWorld, MovesTo}
@@ -73,7 +74,7 @@ fails_to_settle {old} {w} {memory} c side how is s holds there at rose memory_is
     let next : Memory = record m { count = code.counted old.memory.count; work = core.Noting m.count (code.counted old.memory.count) } in
     record {
       next = record { memory = next; tale = failed how fails.op w.tale; progress = NoCall };
-      move = inl (record { there = there; next = next; move = record { side = side; holds = holds; to = code.counted old.memory.count; at = at; rose = subst (λ (n : ℕ). Rose n (code.counted old.memory.count)) (sym s.memory.count) rose; is = refl }; entry = fails.entry; made = fails.made; op = fails.op; left = fails.left; at = fails.at; is = refl; says = refl });
+      move = (ap code.counted (sym s.memory.count), inl (record { there = there; next = next; move = record { side = side; holds = holds; to = code.counted old.memory.count; at = at; rose = subst (λ (n : ℕ). Rose n (code.counted old.memory.count)) (sym s.memory.count) rose; is = refl }; entry = fails.entry; made = fails.made; op = fails.op; left = fails.left; at = fails.at; is = refl; says = refl }));
       shows = record {
         memory = subst (λ (q : CodeMemory). ShowsMemory q next) (sym memory_is) (subst (λ (e : core.Engine). ShowsMemory (code.fails old.memory) (record next { engine = e })) (sym (work_suits core.Settling is.memory_is holds at)) (shows_failed s.memory));
         device = fails.shows;
@@ -122,20 +123,23 @@ fails_to_write {old} {w} {memory} {calls} {device} c side how is s holds there a
     stages : (more : List LogOp) → fails.left ≡ more ++ last → Result
     stages more rest = record {
       next = record { memory = dropped; tale = failed how fails.op w.tale; progress = NoCall };
-      move = inr (inl (record {
-        there = there;
-        next = dropped;
-        move = record { side = side; holds = holds; to = to; at = at; rose = risen; is = refl };
-        round = writing.round;
-        ahead = writing.ahead_is;
-        entry = fails.entry;
-        made = fails.made;
-        op = fails.op;
-        more = more;
-        at = fails.at ∙ ap (λ (l : List LogOp). InCall fails.entry fails.made (fails.op ∷ l)) (rest ∙ ap (λ (l : List LogOp). more ++ l) as_shown);
-        is = refl;
-        says = refl;
-      }));
+      move = (
+        ap code.counted (sym s.memory.count),
+        inr (inl (record {
+          there = there;
+          next = dropped;
+          move = record { side = side; holds = holds; to = to; at = at; rose = risen; is = refl };
+          round = writing.round;
+          ahead = writing.ahead_is;
+          entry = fails.entry;
+          made = fails.made;
+          op = fails.op;
+          more = more;
+          at = fails.at ∙ ap (λ (l : List LogOp). InCall fails.entry fails.made (fails.op ∷ l)) (rest ∙ ap (λ (l : List LogOp). more ++ l) as_shown);
+          is = refl;
+          says = refl;
+        })),
+      );
       shows = record {
         memory = subst (λ (q : CodeMemory). ShowsMemory q dropped) (sym (many (omega (arith, ap length rest, length-append more last)))) (shows_dropped s.memory);
         device = fails.shows;
@@ -146,22 +150,25 @@ fails_to_write {old} {w} {memory} {calls} {device} c side how is s holds there a
     commits : (before : List LogOp) → last ≡ before ++ fails.op ∷ fails.left → Result
     commits before whole = record {
       next = record { memory = doubted; tale = failed how fails.op w.tale; progress = NoCall };
-      move = inr (inr (record {
-        there = there;
-        next = doubted;
-        move = record { side = side; holds = holds; to = to; at = at; rose = risen; is = refl };
-        round = writing.round;
-        ahead = writing.ahead_is;
-        entry = fails.entry;
-        made = fails.made;
-        op = fails.op;
-        left = fails.left;
-        at = fails.at;
-        before = before;
-        last = sym as_shown ∙ whole;
-        is = refl;
-        says = refl;
-      }));
+      move = (
+        ap code.counted (sym s.memory.count),
+        inr (inr (record {
+          there = there;
+          next = doubted;
+          move = record { side = side; holds = holds; to = to; at = at; rose = risen; is = refl };
+          round = writing.round;
+          ahead = writing.ahead_is;
+          entry = fails.entry;
+          made = fails.made;
+          op = fails.op;
+          left = fails.left;
+          at = fails.at;
+          before = before;
+          last = sym as_shown ∙ whole;
+          is = refl;
+          says = refl;
+        })),
+      );
       shows = record {
         memory = subst (λ (q : CodeMemory). ShowsMemory q doubted) (sym (few (omega (arith, ap length whole, length-append before (fails.op ∷ fails.left))))) (shows_failed s.memory);
         device = fails.shows;

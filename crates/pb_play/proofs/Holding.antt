@@ -16,14 +16,16 @@ use Rattle.pb_core.specs.MemoryParts.{IsMemory, HasPart}
 use Rattle.pb_core.specs.Client.{is_holding}
 use Rattle.pb_core.specs.Possible.{MayStep, IsCallDue}
 use Rattle.pb_core.specs.WordMoves.{IsRunning}
-use Rattle.pb_core.specs.World.{InCall, World}
+use Rattle.pb_core.specs.World.{Progress, InCall, World}
 use Rattle.pb_core.proofs.Scans.{the_scan}
 use Rattle.pb_core.proofs.Turns.{work_suits}
-use Rattle.pb_core.proofs.Worlds.{fits_in, keeps-silents}
+use Rattle.pb_core.proofs.Worlds.{fits_in}
 use Rattle.pb_play.specs.declared.memory.Memory.{Memory as CodeMemory}
 use Rattle.pb_play.specs.declared.world.World.{World as CodeWorld}
 use Rattle.pb_play.specs.Steps.{StepsTo, StepsWord, StepsWaiting}
-use Rattle.pb_play.specs.Worlds.{ShowsWorld, IsReady, IsDue, GoesOn, MovesTo, HasStepped, CallsNext}
+use Rattle.pb_play.specs.Worlds.{ShowsWorld, IsDue, GoesOn, MovesTo, HasStepped, CallsNext}
+use Rattle.pb_core.specs.Play.{IsReady, IsNextSeen, IsCalling, at_once}
+use Rattle.pb_core.proofs.Plays.{keeps_before, comes_as}
 use Rattle.pb_play.proofs.Fitting.{world_fits}
 use Rattle.pb_play.proofs.Starts.{start_stays}
 
@@ -41,11 +43,17 @@ word_moves {old} {w} {memory} {answer} c is s running there steps =
     word_moved {old = old} c s (steps w.memory s.memory is.memory_is (world_fits is) running there)
 
 -- .. and so is one of a client that waits
+-- nothing that nobody sees is due before a step of a client that doesn't hold the turn
+others_at_once : (owner : Owner) (work : core.Work) (clients : ℕ) (progress : Progress) (c : ℕ) → IsRunning owner → ((side : ℕ) → owner ≢ core.Held c side) → IsNextSeen owner work clients progress c
+others_at_once core.Free work clients progress c running never = tt
+others_at_once (core.Held d side) work clients progress c running never = λ same. absurd (never side (ap (λ (e : ℕ). core.Held e side) same))
+others_at_once core.Closed work clients progress c running never = running
+
 pub waits_step : {old : CodeWorld} {w : World} {memory : CodeMemory} {answer : Stepped} (c : ℕ) → IsWorld w → ShowsWorld old w → MayStep w c → ((side : ℕ) → w.memory.owner ≢ core.Held c side) → StepsWaiting old.memory c memory answer → HasStepped w (Step c) (record old { memory = memory }) answer
 waits_step {old} {w} {memory} {answer} c is s may never steps =
     let to : StepsTo w.memory c memory answer = steps w.memory s.memory is.memory_is (world_fits is) running may.there may.busy (waits (is_holding (w.memory.book c).stage) refl) in
     let moved = word_moved {old = old} c s to in
-    record { next = moved.next; step = record { silent = 0; middle = w; silents = refl; move = moved.move }; shows = moved.shows }
+    record { next = moved.next; step = record { middle = w; before = at_once (others_at_once w.memory.owner w.memory.work (clients_of w.memory) w.progress c running never) refl; move = moved.move }; shows = moved.shows }
   where
     runs : (owner : Owner) → w.memory.owner ≡ owner → IsRunning owner
     runs core.Free at = tt
@@ -63,12 +71,12 @@ pub holder_runs : {owner : Owner} (c side : ℕ) → owner ≡ core.Held c side 
 holder_runs c side holds = subst IsRunning (sym holds) tt
 
 -- .. and so is a call of the device
-pub call_moves : {new : CodeWorld} {w : World} {answer : Stepped} (c side : ℕ) → w.memory.owner ≡ core.Held c side → c < clients_of w.memory → (answer ≡ Went) × CallsNext w new → MovesTo w (Step c) new answer
-call_moves {new} {w} c side holds there called =
+pub call_moves : {new : CodeWorld} {w : World} {answer : Stepped} (c side : ℕ) → w.memory.owner ≡ core.Held c side → c < clients_of w.memory → IsCalling w.memory.work → (answer ≡ Went) × CallsNext w new → MovesTo w (Step c) new answer
+call_moves {new} {w} c side holds there calling called =
     let next = called.1 in
     record {
       next = record w { tale = with_op next.op w.tale; progress = InCall next.entry (next.made ++ next.op ∷ []) next.left };
-      move = inr (record { there = there; side = side; holds = holds; entry = next.entry; made = next.made; op = next.op; left = next.left; at = next.at; is = refl; says = called.0 });
+      move = inr (calling, record { there = there; side = side; holds = holds; entry = next.entry; made = next.made; op = next.op; left = next.left; at = next.at; is = refl; says = called.0 });
       shows = next.shows;
     }
 
@@ -77,12 +85,22 @@ pub ready_at : (w : World) (work : Work) → w.memory.work ≡ work → IsReady 
 ready_at w work at ready = subst (λ (x : Work). IsReady x (clients_of w.memory) w.progress) at ready
 
 -- A step after moves that nobody sees
-pub steps_on : {between new : CodeWorld} {w : World} {answer : Stepped} (c side : ℕ) → IsWorld w → c < clients_of w.memory → (on : GoesOn w between) → ((v : World) → IsWorld v → ShowsWorld between v → c < clients_of v.memory → IsReady v.memory.work (clients_of v.memory) v.progress → MovesTo v (Step c) new answer) → HasStepped w (Step c) new answer
-steps_on {between} {new} {w} {answer} c side is there on moves =
-    let moved : MovesTo on.middle (Step c) new answer = moves on.middle (keeps-silents on.count w on.middle is on.silents) on.shows (omega (arith, there, on.clients)) on.ready in
+
+-- the holder's next step is the one that what it is at is ready for
+holder_seen : (w : World) (c side : ℕ) → w.memory.owner ≡ core.Held c side → IsReady w.memory.work (clients_of w.memory) w.progress → IsNextSeen w.memory.owner w.memory.work (clients_of w.memory) w.progress c
+holder_seen w c side holds ready =
+    subst (λ (o : Owner). IsNextSeen o w.memory.work (clients_of w.memory) w.progress c) (sym holds) (λ _. ready)
+
+holder_ready : (w : World) (c side : ℕ) → w.memory.owner ≡ core.Held c side → IsNextSeen w.memory.owner w.memory.work (clients_of w.memory) w.progress c → IsReady w.memory.work (clients_of w.memory) w.progress
+holder_ready w c side holds seen =
+    (subst (λ (o : Owner). IsNextSeen o w.memory.work (clients_of w.memory) w.progress c) holds seen) refl
+
+pub steps_on : {between new : CodeWorld} {w : World} {answer : Stepped} (c side : ℕ) → IsWorld w → w.memory.owner ≡ core.Held c side → c < clients_of w.memory → (on : GoesOn w between) → ((v : World) → IsWorld v → ShowsWorld between v → c < clients_of v.memory → IsReady v.memory.work (clients_of v.memory) v.progress → MovesTo v (Step c) new answer) → HasStepped w (Step c) new answer
+steps_on {between} {new} {w} {answer} c side is holds there on moves =
+    let moved : MovesTo on.middle (Step c) new answer = moves on.middle (keeps_before is on.before) on.shows (omega (arith, there, on.clients)) on.ready in
     record {
       next = moved.next;
-      step = record { silent = on.count; middle = on.middle; silents = on.silents; move = moved.move };
+      step = record { middle = on.middle; before = comes_as (holder_seen w c side holds) (holder_ready w c side holds) on.before; move = moved.move };
       shows = moved.shows;
     }
 
@@ -114,11 +132,11 @@ scan_idle {w} c side d part seen {entry} {made} {left} is holds at going =
     fits_in w core.Resting (InCall entry made left) going (work_suits (core.Scanning d part seen) is.memory_is holds at).0 is
 
 -- A call that fails, after moves that nobody sees
-pub fails_on : {between new : CodeWorld} {w : World} {answer : Stepped} (c : ℕ) (how : How) → IsWorld w → c < clients_of w.memory → (on : GoesOn w between) → IsCallDue w.memory.work w.progress (clients_of w.memory) → ((v : World) → IsWorld v → ShowsWorld between v → c < clients_of v.memory → IsDue v → MovesTo v (Fail c how) new answer) → HasStepped w (Fail c how) new answer
-fails_on {between} {new} {w} {answer} c how is there on due moves =
-    let moved : MovesTo on.middle (Fail c how) new answer = moves on.middle (keeps-silents on.count w on.middle is on.silents) on.shows (omega (arith, there, on.clients)) (on.due due) in
+pub fails_on : {between new : CodeWorld} {w : World} {answer : Stepped} (c side : ℕ) (how : How) → IsWorld w → w.memory.owner ≡ core.Held c side → c < clients_of w.memory → (on : GoesOn w between) → IsCallDue w.memory.work w.progress (clients_of w.memory) → ((v : World) → IsWorld v → ShowsWorld between v → c < clients_of v.memory → IsDue v → MovesTo v (Fail c how) new answer) → HasStepped w (Fail c how) new answer
+fails_on {between} {new} {w} {answer} c side how is holds there on due moves =
+    let moved : MovesTo on.middle (Fail c how) new answer = moves on.middle (keeps_before is on.before) on.shows (omega (arith, there, on.clients)) (on.due due) in
     record {
       next = moved.next;
-      step = record { silent = on.count; middle = on.middle; silents = on.silents; move = moved.move };
+      step = record { middle = on.middle; before = comes_as (holder_seen w c side holds) (holder_ready w c side holds) on.before; move = moved.move };
       shows = moved.shows;
     }

@@ -24,6 +24,7 @@ use Rattle.pb_layout.specs.Represents.{header_for, record_in_use, record_of_side
 use Rattle.pb_layout.proofs.OneRecovery.{parts, length-record_at}
 use Rattle.pb_layout_laws.proofs.FewRounds.{side_rounds_few}
 use Rattle.pb_layout_laws.proofs.Rounds.{after_entries-kind_of}
+use Rattle.pb_core.specs.Play.{ListsRising}
 use Rattle.pb_engine.specs.Asks.{MayBeServed, IsNextAsk, side_asked, answered_from, state_from, asked_round}
 use Rattle.pb_engine.specs.Next.{IsBegun, PutsEntries, KeepsBefore}
 use Rattle.pb_engine.specs.Operations.{cell_ops}
@@ -112,6 +113,12 @@ apart_stack e = cc
 pub apart_heap : Heap ≢ Queue
 apart_heap e = cc
 
+pub map_or_heap : Map ≢ Heap
+map_or_heap e = cc
+
+pub stack_or_heap : Stack ≢ Heap
+stack_or_heap e = cc
+
 next_of_one : (records : ℕ → List Line) (s : Standing) (asks : List Ask) (begun between lines : List Line) → s.kind ≢ Queue → MayBeServed s asks → length (records (side_asked asks)) ≡ record_length (header_for s) → IsBegun (records (side_asked asks)) (rounds_of s (side_asked asks) + 1) begun → PutsEntries (records (side_asked asks)) (answered_from s.state asks) begun between → KeepsBefore (1 + slot_count (header_for s)) between lines → LinesRepresent (object_part (header_for s) lines) (state_from s.state asks)
     → IsNextOf records s (asked_round s asks) lines
 next_of_one records s asks begun between lines not_queue may long begins puts keeps object = record {
@@ -161,16 +168,24 @@ no_step (Items size items) after no_queue = tt
 no_step (Rising size items) after no_queue = tt
 no_step (Waits size queue) after no_queue = absurd (no_queue refl)
 
+-- what is said of heaps alone
+listed_by : (state : State) (lines : List Line) → (kind_of state ≡ Heap → ListsRising state lines) → ListsRising state lines
+listed_by (Registers registers) lines heap = tt
+listed_by (Items size items) lines heap = tt
+listed_by (Rising size items) lines heap = heap refl
+listed_by (Waits size queue) lines heap = tt
+
 -- what serving wrote is the round's record
-pub one_made : {head : Header} {lines : List Line} {rounds : Rounds} {asks : List Ask} {side : ℕ} (s : Standing) {before begun new : List Line} {seats rows : List Seat} {plan : List LogOp} (count : ℕ) → MayBegin head lines rounds asks side s → head.kind ≢ Queue → before ≡ record_of_side lines s (side_asked asks) → length before ≡ record_length head → count ≡ round_count side rounds → IsBegun before (count + 1) begun → HasServed head before s.state asks begun new seats rows → plan ≡ []
+pub one_made : {head : Header} {lines : List Line} {rounds : Rounds} {asks : List Ask} {side : ℕ} (s : Standing) {before begun new : List Line} {seats rows : List Seat} {plan : List LogOp} (count : ℕ) → MayBegin head lines rounds asks side s → head.kind ≢ Queue → before ≡ record_of_side lines s (side_asked asks) → length before ≡ record_length head → count ≡ round_count side rounds → IsBegun before (count + 1) begun → HasServed head before s.state asks begun new seats rows → (head.kind ≡ Heap → ListsRising (state_from s.state asks) (object_part head new)) → plan ≡ []
     → MakesRecord lines s (asked_round s asks) seats new rows plan
-one_made {head} {lines} {rounds} {asks} {side} s {before} {begun} {new} {seats} {rows} {plan} count may not_queue is long counted begins served none = record {
+one_made {head} {lines} {rounds} {asks} {side} s {before} {begun} {new} {seats} {rows} {plan} count may not_queue is long counted begins served rises none = record {
   record_is = next_of_one (record_of_side lines s) s asks begun has.between new no_queue may.may
       (ap length (sym is) ∙ (long ∙ ap record_length (sym may.head_is)))
       (subst (λ (ls : List Line). IsBegun ls (rounds_of s (side_asked asks) + 1) begun) is (subst (λ (n : ℕ). IsBegun before (n + 1) begun) (counted ∙ (sym (counted_side s may) ∙ ap (rounds_of s) (sym may.side_is))) begins))
       (subst (λ (ls : List Line). PutsEntries ls (answered_from s.state asks) begun has.between) is has.puts) has.keeps has.object;
   rows_are = served.rows_are;
   step = no_step s.state after (λ e. not_queue (sym (kind_in s may) ∙ e));
+  listed = listed_by after (object_part (header_for s) new) (λ heap. subst (λ (st : State). ListsRising st (object_part (header_for s) new)) (sym (state_after_entries s asks)) (subst (λ (h : Header). ListsRising (state_from s.state asks) (object_part h new)) (sym may.head_is) (rises (sym (kind_in s may) ∙ (sym (after_entries-kind_of s (answered_from s.state asks)) ∙ heap)))));
   cells_are = none ∙ sym (no_cell_ops (header_for s) (next_position s.state) after after_kind);
 }
   where
@@ -335,6 +350,7 @@ queue_made {head} {lines} {rounds} {asks} {side} s start {before} {begun} {new} 
   rows_are = has.rows_are ∙ ap (λ (st : State). with_rows (answered_from st asks) seats) (sym region.state);
   step = subst (λ (st : State). StepsQueue st (after_round s (asked_round s asks)).state) (sym region.state)
       (subst (λ (st : State). StepsQueue (Waits s.size start) st) (sym after_is) (queue_step (side_asked asks) s.size start has.queue has.moves (start_bounded s start region) has.bounded has.later));
+  listed = subst (λ (st : State). ListsRising st (object_part (header_for s) new)) (sym after_is) tt;
   cells_are = has.planned ∙ (λ i. cell_ops (header_for s) (next_position (sym region.state i)) (sym after_is i));
 }
   where

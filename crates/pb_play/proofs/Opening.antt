@@ -25,16 +25,16 @@ use Rattle.pb_core.specs.Memory.{Memory, Owner, clients_of, shown}
 use Rattle.pb_core.specs.Possible.{IsOpening, IsReopening, MayAsk}
 use Rattle.pb_core.specs.WordMoves.{IsRunning, asks}
 use Rattle.pb_core.specs.World.{Progress, NoCall, InCall, World}
-use Rattle.pb_core.specs.WorldMoves.{Moves, failed, opens}
+use Rattle.pb_core.specs.WorldMoves.{failed, opens}
 use Rattle.pb_core.proofs.Devices.{steady_holds}
-use Rattle.pb_core.proofs.Possible.{one_silent}
 use Rattle.pb_core.proofs.Worlds.{fits_in, closed_suits, shown_is}
 use Rattle.pb_play.specs.declared.calls.Calls.{Calls}
 use Rattle.pb_play.specs.declared.device.Device.{Device}
 use Rattle.pb_play.specs.declared.memory.Memory.{Memory as CodeMemory}
 use Rattle.pb_play.specs.declared.seat.Stage.TheVariants.{Storing}
 use Rattle.pb_play.specs.declared.world.World.{World as CodeWorld}
-use Rattle.pb_play.specs.Device.{ShowsProgress, ShowsDevice, IsCallable, FailsCall}
+use Rattle.pb_play.specs.Device.{ShowsProgress, ShowsDevice, FailsCall}
+use Rattle.pb_core.specs.Play.{IsCallable, IsAtOnce, PlaysMove, at_once, silently}
 use Rattle.pb_play.specs.Seats as code
 use Rattle.pb_play.specs.Seats.{seat_of, begins_asking}
 use Rattle.pb_play.specs.Shown.{ShowsMemory}
@@ -58,8 +58,8 @@ pub is_closed : (w : World) → IsReopening w → w.memory.owner ≡ core.Closed
 is_closed w opening = closed_by w.memory.owner w.progress opening
 
 -- a step with no move before it that nobody sees
-pub moves_at_once : {w : World} {event : Event} {new : CodeWorld} {answer : Stepped} (next : World) → Moves w event next answer → ShowsWorld new next → HasStepped w event new answer
-moves_at_once {w} next move shows = record { next = next; step = record { silent = 0; middle = w; silents = refl; move = move }; shows = shows }
+pub moves_at_once : {w : World} {event : Event} {new : CodeWorld} {answer : Stepped} (next : World) → IsAtOnce w event → PlaysMove w event next answer → ShowsWorld new next → HasStepped w event new answer
+moves_at_once {w} next now move shows = record { next = next; step = record { middle = w; before = at_once now refl; move = move }; shows = shows }
 
 left_callable : (entry made left : List LogOp) → IsOpening core.Closed (InCall entry made left) → IsCallable (InCall entry made left)
 left_callable entry made [] o = absurd o
@@ -74,12 +74,14 @@ pub settles_region : {new : CodeWorld} {w : World} {answer : Stepped} → IsReop
 settles_region {new} {w} opening called =
     let next = called.1 in
     moves_at_once (record w { tale = with_op next.op w.tale; progress = InCall next.entry (next.made ++ next.op ∷ []) next.left })
+    tt
     (inr (record { closed = is_closed w opening; entry = next.entry; made = next.made; op = next.op; left = next.left; at = next.at; is = refl; says = called.0 }))
     next.shows
 
 pub fails_reopening : {old : CodeWorld} {w : World} {calls : Calls} {device : Device} (how : How) → ShowsWorld old w → IsReopening w → FailsCall how w.tale w.progress calls device → HasStepped w (ReopenFail how) (record old { calls = calls; device = device }) Went
 fails_reopening {old} {w} how s opening fails =
     moves_at_once (record w { tale = failed how fails.op w.tale; progress = NoCall })
+    tt
     (inr (record { closed = is_closed w opening; entry = fails.entry; made = fails.made; op = fails.op; left = fails.left; at = fails.at; is = refl; says = refl }))
     (record { memory = s.memory; device = fails.shows; head = s.head })
 
@@ -93,6 +95,7 @@ reads_region {old} {w} {calls} is s opening idle going none planned =
     let stands : Represents (contents w.tale.base w.tale.log) (shown m) = subst (λ (t : Standing). Represents (contents w.tale.base w.tale.log) t) (sym (shown_is m)) (steady_holds steady) in
     let plan : settle_to (header_for (shown m)) (shown m) ≡ calls.plan.items = (λ i. settle_ops ((header_after m.start (m.past ++ m.published) ∙ s.head) i) (s.memory.rounds.first i) (s.memory.rounds.second i)) ∙ sym planned in
     moves_at_once (record w { progress = InCall w.tale.log [] (settle_to (header_for (shown m)) (shown m)) })
+    tt
     (inl (record { closed = closed; idle = now; standing = shown m; stands = stands; is = refl; says = refl }))
     (record {
       memory = s.memory;
@@ -141,9 +144,8 @@ pub opens_closed : {old : CodeWorld} {w : World} {memory : CodeMemory} {calls : 
 opens_closed {old} {w} {memory} {calls} s done closed memory_is calls_is =
     let all : IsDone w.progress = done_by w.progress (λ o. done (subst (λ (x : Owner). IsOpening x w.progress) (sym closed) o)) in
     record {
-      count = 1;
       middle = record { memory = record (w.memory) { owner = core.Free; engine = core.Resting }; tale = w.tale; progress = NoCall };
-      silents = one_silent (opens (record { closed = closed; entry = all.entry; made = all.made; at = all.at; is = refl }));
+      before = silently (λ runs. subst IsRunning closed runs) (opens (record { closed = closed; entry = all.entry; made = all.made; at = all.at; is = refl })) tt;
       shows = record {
         memory = subst (λ (q : CodeMemory). ShowsMemory q (record (w.memory) { owner = core.Free; engine = core.Resting })) (sym memory_is) (shows_open s.memory);
         device = subst (λ (q : Calls). ShowsDevice q old.device w.tale NoCall) (sym calls_is) (ended_device s.device);
@@ -155,7 +157,7 @@ opens_closed {old} {w} {memory} {calls} s done closed memory_is calls_is =
     }
 
 pub stays_open : {old : CodeWorld} {w : World} → ShowsWorld old w → IsRunning w.memory.owner → IsOpened w old
-stays_open {old} {w} s running = record { count = 0; middle = w; silents = refl; shows = s; start = refl; book = refl; running = running }
+stays_open {old} {w} s running = record { middle = w; before = at_once running refl; shows = s; start = refl; book = refl; running = running }
 
 -- Asking
 
@@ -187,9 +189,8 @@ asks_for {between} {w} {memory} ask may opening memory_is =
     record {
       next = record (opening.middle) { memory = asks ask.client ask m };
       step = record {
-        silent = opening.count;
         middle = opening.middle;
-        silents = opening.silents;
+        before = opening.before;
         move = record {
           next = asks ask.client ask m;
           move = record {

@@ -9,6 +9,7 @@ use Rattle.pb_core.specs.DeviceParts.{IsWorld}
 use Rattle.pb_core.specs.Possible.{IsPossible}
 use Rattle.pb_core.specs.World.{World}
 use Rattle.pb_core.proofs.Exactness.{exact}
+use Rattle.pb_core.proofs.Plays.{next_of}
 use Rattle.pb_core.proofs.Runs.{fresh_is_world}
 use Rattle.pb_core.proofs.Worlds.{keeps-event}
 use Rattle.pb_play.specs.declared.world.World.{World as CodeWorld}
@@ -41,7 +42,7 @@ pub stays_shown : {old new : CodeWorld} {event : Event} {answer : Stepped} → I
 stays_shown {old} {new} {event} {answer} shown exactly = go (exactly shown.world shown.is shown.shows)
   where
     go : HasStepped shown.world event new answer ⊎ ((answer ≡ Impossible) × (new ≡ old) × ¬ MayHappen shown.world event) → IsShown new
-    go (inl stepped) = record { world = stepped.next; is = keeps-event shown.world event stepped.next answer shown.is stepped.step; shows = stepped.shows }
+    go (inl stepped) = record { world = stepped.next; is = keeps-event shown.world event stepped.next answer shown.is (next_of stepped.step); shows = stepped.shows }
     go (inr (says, same, never)) = subst IsShown (sym same) shown
 
 -- and so is a world that was just made

@@ -27,7 +27,7 @@ use Rattle.pb_layout.specs.Record.{slot_line_at}
 use Rattle.pb_layout.specs.Recovered.{Represents}
 use Rattle.pb_layout.specs.Region.{record_place, cell_place}
 use Rattle.pb_layout.specs.RegionOps.{changes_from, is_same, fenced_ops, commit_ops, spare_place, store_over}
-use Rattle.pb_layout.specs.Represents.{header_for, record_at, record_in_use, record_of_side, with_record, RegionParts}
+use Rattle.pb_layout.specs.Represents.{header_for, object_part, record_at, record_in_use, record_of_side, with_record, RegionParts}
 use Rattle.pb_layout.specs.Shape.{IsHeader}
 use Rattle.pb_layout.specs.Stages.{StagesRecord}
 use Rattle.pb_layout.proofs.ChangedRegion.{SameRecords, object_parts-same}
@@ -38,7 +38,8 @@ use Rattle.pb_layout_laws.proofs.Geometry.{cell_below, record_after_cells}
 use Rattle.pb_layout_laws.proofs.PutCells.{cells_of_a_round}
 use Rattle.pb_layout_laws.proofs.Rounds.{next_side, after_entries-kind_of}
 use Rattle.pb_core.specs.World as core
-use Rattle.pb_core.specs.World.{Put, WritesLine, AreFree, IsRoundPlan}
+use Rattle.pb_core.specs.World.{Put, puts_at, puts_between, puts_of, WritesLine, AreFree, IsRoundPlan}
+use Rattle.pb_core.specs.Play.{ListsRising, IsPlayedPlan}
 use Rattle.pb_engine.specs.Operations.{put_ops, puts_from, cell_ops}
 use Rattle.pb_queue.proofs.CellExits.{cells_there}
 use Rattle.pb_queue.proofs.PutCells.{puts_from-none, puts_from-more}
@@ -46,39 +47,36 @@ use Rattle.pb_play.specs.Rounds.{StepsQueue}
 
 -- The cells
 
--- items from a position on
-abbrev puts_of : ℕ → List ℕ → List Put
-puts_of from [] = []
-puts_of from (item ∷ items) = record { position = from; value = item } ∷ puts_of (suc from) items
-
-same_puts : (head : Header) (from : ℕ) (items : List ℕ) → core.cell_ops head (puts_of from items) ≡ puts_from head from items
+same_puts : (head : Header) (from : ℕ) (items : List ℕ) → core.cell_ops head (puts_at from items) ≡ puts_from head from items
 same_puts head from [] = sym (puts_from-none head from)
 same_puts head from (item ∷ items) = ap (λ (l : List LogOp). put_ops head from item ++ l) (same_puts head (suc from) items) ∙ sym (puts_from-more head from item items)
 
-free_puts : (size : ℕ) (queue : Waiting) (from : ℕ) (items : List ℕ) → tail_of queue ≤ from → from + length items ≤ queue.taken + size → AreFree (Waits size queue) (puts_of from items)
+free_puts : (size : ℕ) (queue : Waiting) (from : ℕ) (items : List ℕ) → tail_of queue ≤ from → from + length items ≤ queue.taken + size → AreFree (Waits size queue) (puts_at from items)
 free_puts size queue from [] after near = tt
 free_puts size queue from (item ∷ items) after near = ((after, omega (arith, near)), free_puts size queue (suc from) items (omega (arith, after)) (omega (arith, near)))
 
 -- what a round puts, as the core has it
 record HasPuts (head : Header) (before after : State) : Type 0 where
   puts : List Put
+  its_own : puts ≡ puts_between before after
   are : core.cell_ops head puts ≡ cell_ops head (next_position before) after
   free : AreFree before puts
 
-no_puts : (head : Header) (before after : State) → cell_ops head (next_position before) after ≡ [] → HasPuts head before after
-no_puts head before after none = record { puts = []; are = sym none; free = tt }
+no_puts : (head : Header) (before after : State) → puts_between before after ≡ [] → cell_ops head (next_position before) after ≡ [] → HasPuts head before after
+no_puts head before after no_items none = record { puts = []; its_own = sym no_items; are = sym none; free = tt }
 
 has_puts : (head : Header) (before after : State) → kind_of after ≡ kind_of before → StepsQueue before after → HasPuts head before after
-has_puts head before (Registers registers) kind step = no_puts head before (Registers registers) refl
-has_puts head before (Items size items) kind step = no_puts head before (Items size items) refl
-has_puts head before (Rising size items) kind step = no_puts head before (Rising size items) refl
+has_puts head before (Registers registers) kind step = no_puts head before (Registers registers) refl refl
+has_puts head before (Items size items) kind step = no_puts head before (Items size items) refl refl
+has_puts head before (Rising size items) kind step = no_puts head before (Rising size items) refl refl
 has_puts head (Registers registers) (Waits n after) kind step = absurd cc
 has_puts head (Items size items) (Waits n after) kind step = absurd cc
 has_puts head (Rising size items) (Waits n after) kind step = absurd cc
 has_puts head (Waits size before) (Waits n after) kind step =
     let added = drop (tail_of before - after.taken) after.items in
     record {
-      puts = puts_of (tail_of before) added;
+      puts = puts_at (tail_of before) added;
+      its_own = refl;
       are = same_puts head (tail_of before) added;
       free = free_puts size before (tail_of before) added (omega arith) (omega (arith, step.0, step.1, step.2, length-drop (tail_of before - after.taken) after.items));
     }
@@ -167,6 +165,7 @@ pub is_planned : {tale : Tale} (s : Standing) (round : Round) (next : List Line)
     → IsRoundPlan tale s round plan
 is_planned {tale} s round next plan long stands is step planned = record {
   puts = found.puts;
+  its_own = found.its_own;
   free = found.free;
   cells = subst (λ (l : List LogOp). HasCells tale.base (tale.log ++ l) s round) (sym found.are)
       (cells_of_a_round tale.base (tale.log ++ cells) s round (have_cells tale.base tale.log head s.state after kind (region.size) step region.valid long));
@@ -232,3 +231,19 @@ is_planned {tale} s round next plan long stands is step planned = record {
 
     fits : first + length next ≤ length (contents tale.base (tale.log ++ cells))
     fits = omega (arith, length-contents tale.base (tale.log ++ cells), long, is.long, record_fits head round.side ((rounds_of s round.side + 1) % 2) region.valid here (omega arith))
+
+-- .. and they are those that are played
+pub is_played_plan : {tale : Tale} (s : Standing) (round : Round) (next : List Line) (plan : List LogOp) → Represents (contents tale.base tale.log) s → IsNextRecord (contents tale.base tale.log) s round next → ListsRising (after_round s round).state (object_part (header_for s) next) → StepsQueue s.state (after_round s round).state
+    → plan ≡ cell_ops (header_for s) (next_position s.state) (after_round s round).state ++ store_over (header_for s) round.side (rounds_of s round.side) (Some (record_in_use (contents tale.base tale.log) (header_for s) round.side (rounds_of s round.side + 1))) next
+    → IsPlayedPlan tale s round plan
+is_played_plan {tale} s round next plan stands is listed step planned = record {
+  lines = next;
+  next = is;
+  listed = listed;
+  is = planned
+      ∙ ap (λ (l : List LogOp). l ++ store_over (header_for s) round.side (rounds_of s round.side) (Some (record_in_use (contents tale.base tale.log) (header_for s) round.side (rounds_of s round.side + 1))) next)
+      (sym found.are ∙ ap (core.cell_ops (header_for s)) found.its_own);
+}
+  where
+    found : HasPuts (header_for s) s.state (after_round s round).state
+    found = has_puts (header_for s) s.state (after_round s round).state (after_entries-kind_of s round.entries) step

@@ -17,7 +17,6 @@ use Rattle.pb_core.specs.MemoryParts.{IsMemory}
 use Rattle.pb_core.specs.Possible.{IsCallDue}
 use Rattle.pb_core.specs.World.{Progress, NoCall, InCall, World}
 use Rattle.pb_core.specs.WorldMoves.{settling_plan, begins_settling, ends_calls, ends_settling_none, ends_settling_round}
-use Rattle.pb_core.proofs.Possible.{one_silent}
 use Rattle.pb_core.proofs.Turns.{work_suits}
 use Rattle.pb_core.proofs.Worlds.{fits_in}
 use Rattle.pb_play.specs.declared.calls.Calls.{Calls}
@@ -25,11 +24,12 @@ use Rattle.pb_play.specs.declared.device.Device.{Device}
 use Rattle.pb_play.specs.declared.memory.Memory.{Memory as CodeMemory}
 use Rattle.pb_play.specs.declared.memory.Rounds.{Rounds}
 use Rattle.pb_play.specs.declared.world.World.{World as CodeWorld}
-use Rattle.pb_play.specs.Device.{ShowsProgress, ShowsDevice, IsCallable}
+use Rattle.pb_play.specs.Device.{ShowsProgress, ShowsDevice}
+use Rattle.pb_core.specs.Play.{IsCallable, IsReady, IsCalling, at_once, silently}
 use Rattle.pb_play.specs.Seats as code
 use Rattle.pb_play.specs.Shown.{ShowsRounds, side_ahead, ShowsMemory}
 use Rattle.pb_play.specs.Steps.{FitsWords}
-use Rattle.pb_play.specs.Worlds.{ShowsWorld, IsReady, IsCalling, IsDue, GoesOn}
+use Rattle.pb_play.specs.Worlds.{ShowsWorld, IsDue, GoesOn}
 use Rattle.pb_play.proofs.Fitting.{header_after, world_fits}
 use Rattle.pb_play.proofs.Publishing.{shows_rounds}
 
@@ -117,9 +117,8 @@ due_ready w (core.GivingUp from to) at ready due = absurd due
 
 pub goes_nowhere : {old : CodeWorld} {w : World} (work : Work) → ShowsWorld old w → w.memory.work ≡ work → IsReady work (clients_of w.memory) w.progress → GoesOn w old
 goes_nowhere {old} {w} work s at ready = record {
-  count = 0;
   middle = w;
-  silents = refl;
+  before = at_once (ready_by work (clients_of w.memory) w.progress at ready) refl;
   shows = s;
   owner = refl;
   clients = refl;
@@ -149,14 +148,18 @@ plan_is {old} {w} c side is s holds at =
     ap (λ (t : Standing). settle_to (header_for t) (with_round m.ahead t)) (doubtful_known is.memory_is holds at)
     ∙ (λ i. settle_ops (head i) (rounds.first i) (rounds.second i))
 
+-- where settling didn't begin yet its first call isn't the next step
+not_begun : (w : World) → w.memory.work ≡ core.Settling → w.progress ≡ NoCall → IsReady w.memory.work (clients_of w.memory) w.progress → ⊥
+not_begun w at none ready =
+    subst IsCallable none (subst (λ (x : Work). IsReady x (clients_of w.memory) w.progress) at ready)
+
 pub begins : {old : CodeWorld} {w : World} {calls : Calls} {rounds : Rounds} (c side : ℕ) → IsWorld w → ShowsWorld old w → w.memory.owner ≡ core.Held c side → w.memory.work ≡ core.Settling → old.calls.going ≡ false → rounds ≡ code.with_ahead old.memory.ahead old.memory.rounds → calls.going ≡ true → calls.made ≡ 0 → calls.plan.items ≡ settle_ops old.head rounds.first rounds.second → GoesOn w (record old { calls = calls })
 begins {old} {w} {calls} {rounds} c side is s holds at idle counted going none planned =
     let m = w.memory in
     let plan : settling_plan m ≡ calls.plan.items = plan_is c side is s holds at ∙ (ap (λ (r : Rounds). settle_ops old.head r.first r.second) (sym counted) ∙ sym planned) in
     record {
-      count = 1;
       middle = record w { progress = InCall w.tale.log [] (settling_plan m) };
-      silents = one_silent (begins_settling (record { client = c; side = side; holds = holds; at = at; idle = no_call s.device idle; is = refl }));
+      before = silently (λ now. not_begun w at (no_call s.device idle) now) (begins_settling (record { client = c; side = side; holds = holds; at = at; idle = no_call s.device idle; is = refl })) tt;
       shows = record {
         memory = s.memory;
         device = record {
@@ -189,6 +192,21 @@ not_due : (w : World) (work : Work) → w.memory.work ≡ work → HasEnded w.pr
 not_due w work at ended due calling =
     none_due work (clients_of w.memory) ended.entry ended.made calling
     (subst (λ (q : Progress). IsCallDue work q (clients_of w.memory)) ended.at (subst (λ (x : Work). IsCallDue x w.progress (clients_of w.memory)) at due))
+
+-- nor is one where all are made
+none_ready : (work : Work) (clients : ℕ) (entry made : List LogOp) → IsReady work clients (InCall entry made []) → IsCalling work → ⊥
+none_ready core.NoWork clients entry made ready calling = calling
+none_ready core.Settling clients entry made ready calling = ready
+none_ready (core.Scanning d part seen) clients entry made ready calling = calling
+none_ready core.Calling clients entry made ready calling = ready
+none_ready (core.Filling count) clients entry made ready calling = calling
+none_ready (core.Noting from to) clients entry made ready calling = calling
+none_ready (core.GivingUp from to) clients entry made ready calling = calling
+
+not_ready : (w : World) (work : Work) → w.memory.work ≡ work → HasEnded w.progress → IsReady w.memory.work (clients_of w.memory) w.progress → IsCalling work → ⊥
+not_ready w work at ended ready calling =
+    none_ready work (clients_of w.memory) ended.entry ended.made
+    (subst (λ (q : Progress). IsReady work (clients_of w.memory) q) ended.at (subst (λ (x : Work). IsReady x (clients_of w.memory) w.progress) at ready)) calling
 
 pub shows_recorded : {p : CodeMemory} {m : Memory} → ShowsMemory p m → ShowsMemory (code.recorded p) (record m { work = core.Filling 0; engine = core.Recorded })
 shows_recorded s = record {
@@ -233,9 +251,8 @@ ends_call {old} {w} c side s holds there at going past memory_is calls_is =
     let m = w.memory in
     let ended = has_ended s.device going past in
     record {
-      count = 1;
       middle = record { memory = record m { work = core.Filling 0; engine = core.Recorded }; tale = w.tale; progress = NoCall };
-      silents = one_silent (ends_calls (record { client = c; there = there; next = record m { work = core.Filling 0; engine = core.Recorded }; move = record { side = side; holds = holds; at = at; is = refl }; entry = ended.entry; made = ended.made; at = ended.at; is = refl }));
+      before = silently (λ now. not_ready w core.Calling at ended now tt) (ends_calls (record { client = c; there = there; next = record m { work = core.Filling 0; engine = core.Recorded }; move = record { side = side; holds = holds; at = at; is = refl }; entry = ended.entry; made = ended.made; at = ended.at; is = refl })) tt;
       shows = record {
         memory = subst (λ (q : CodeMemory). ShowsMemory q (record m { work = core.Filling 0; engine = core.Recorded })) (sym memory_is) (shows_recorded s.memory);
         device = subst (λ (q : Calls). ShowsDevice q old.device w.tale NoCall) (sym calls_is) (ended_device s.device);
@@ -265,9 +282,8 @@ ends_settling {old} {w} {memory} {calls} c side s holds there at going past memo
 
     go : (a : Option Round) → w.memory.ahead ≡ a → GoesOn w (record old { memory = memory; calls = calls })
     go None is = record {
-      count = 1;
       middle = record { memory = record (w.memory) { work = core.Scanning 0 core.AtNumber []; engine = core.Resting }; tale = w.tale; progress = NoCall };
-      silents = one_silent (ends_settling_none (record { client = c; there = there; next = record (w.memory) { work = core.Scanning 0 core.AtNumber []; engine = core.Resting }; move = record { side = side; holds = holds; at = at; none = is; is = refl }; entry = ended.entry; made = ended.made; at = ended.at; is = refl }));
+      before = silently (λ now. not_ready w core.Settling at ended now tt) (ends_settling_none (record { client = c; there = there; next = record (w.memory) { work = core.Scanning 0 core.AtNumber []; engine = core.Resting }; move = record { side = side; holds = holds; at = at; none = is; is = refl }; entry = ended.entry; made = ended.made; at = ended.at; is = refl })) tt;
       shows = shows (record (w.memory) { work = core.Scanning 0 core.AtNumber []; engine = core.Resting }) s.head
           (subst (λ (q : CodeMemory). ShowsMemory q (record (w.memory) { work = core.Scanning 0 core.AtNumber []; engine = core.Resting })) (sym (settled_is None is)) (shows_scan s.memory));
       owner = refl;
@@ -276,9 +292,8 @@ ends_settling {old} {w} {memory} {calls} c side s holds there at going past memo
       ready = omega (arith, there);
     }
     go (Some round) is = record {
-      count = 1;
       middle = record { memory = record (w.memory) { work = core.Filling 0; engine = core.Recorded }; tale = w.tale; progress = NoCall };
-      silents = one_silent (ends_settling_round (record { client = c; there = there; next = record (w.memory) { work = core.Filling 0; engine = core.Recorded }; move = record { side = side; holds = holds; round = round; at = at; some = is; is = refl }; entry = ended.entry; made = ended.made; at = ended.at; is = refl }));
+      before = silently (λ now. not_ready w core.Settling at ended now tt) (ends_settling_round (record { client = c; there = there; next = record (w.memory) { work = core.Filling 0; engine = core.Recorded }; move = record { side = side; holds = holds; round = round; at = at; some = is; is = refl }; entry = ended.entry; made = ended.made; at = ended.at; is = refl })) tt;
       shows = shows (record (w.memory) { work = core.Filling 0; engine = core.Recorded }) s.head
           (subst (λ (q : CodeMemory). ShowsMemory q (record (w.memory) { work = core.Filling 0; engine = core.Recorded })) (sym (settled_is (Some round) is)) (shows_recorded s.memory));
       owner = refl;

@@ -27,12 +27,6 @@ pub record ShowsDevice (calls : Calls) (device : Device) (tale : Tale) (progress
   pub log : tale.log ≡ device.log.items
   pub lines : contents tale.base tale.log ≡ device.lines.items
 
--- a call is due
-abbrev pub IsCallable : Progress → Type 0
-IsCallable NoCall = ⊥
-IsCallable (InCall entry made []) = ⊥
-IsCallable (InCall entry made (op ∷ left)) = Unit {0}
-
 -- all are made
 abbrev pub IsMade : Progress → Type 0
 IsMade NoCall = ⊥

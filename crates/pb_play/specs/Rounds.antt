@@ -10,8 +10,9 @@ use Rattle.pb_object.specs.Standing.{Standing}
 use Rattle.pb_layout.specs.declared.header.Header.{Header}
 use Rattle.pb_layout.specs.NextRecord.{IsNextRecord, next_position}
 use Rattle.pb_layout.specs.Recovered.{Represents}
-use Rattle.pb_layout.specs.Represents.{header_for}
+use Rattle.pb_layout.specs.Represents.{header_for, object_part}
 use Rattle.pb_core.specs.Memory.{round_of_turn}
+use Rattle.pb_core.specs.Play.{ListsRising}
 use Rattle.pb_engine.specs.Asks.{MayBeServed, side_asked}
 use Rattle.pb_engine.specs.Operations.{cell_ops}
 use Rattle.pb_play.specs.declared.memory.Memory.{Memory}
@@ -63,9 +64,10 @@ StepsQueue (Waits size before) (Items n items) = Unit {0}
 StepsQueue (Waits size before) (Rising n items) = Unit {0}
 StepsQueue (Waits size before) (Waits n after) = (after.taken ≤ tail_of before) × (tail_of before ≤ tail_of after) × (tail_of after ≤ before.taken + size)
 
--- a round's record is made of the one in use, with the replies and with the calls that put its items
+-- a round's record is made of the one in use, a heap's items in rising order, with the replies and with the calls that put its items
 pub record MakesRecord (lines : List Line) (s : Standing) (round : Round) (seats : List Seat) (next : List Line) (rows : List Seat) (plan : List LogOp) : Type 0 where
   pub record_is : IsNextRecord lines s round next
   pub rows_are : rows ≡ with_rows round.entries seats
   pub step : StepsQueue s.state (after_round s round).state
+  pub listed : ListsRising (after_round s round).state (object_part (header_for s) next)
   pub cells_are : plan ≡ cell_ops (header_for s) (next_position s.state) (after_round s round).state

@@ -15,9 +15,9 @@ use Rattle.pb_core.specs.Memory.{Held, Work, NoWork, Settling, Scanning, Calling
 use Rattle.pb_core.specs.Possible.{IsPossible, IsCallDue, IsReopening, MayAsk, MayStep, MayFail, MayCrash}
 use Rattle.pb_core.specs.WordMoves.{IsRunning}
 use Rattle.pb_core.specs.World.{Progress, InCall, World}
-use Rattle.pb_core.specs.WorldMoves.{Moves, Next, Silents}
+use Rattle.pb_core.specs.Play.{IsCallable, IsReady, IsCalling, ComesBefore, PlaysMove, NextPlayed}
 use Rattle.pb_play.specs.declared.world.World.{World as CodeWorld}
-use Rattle.pb_play.specs.Device.{ShowsDevice, IsCallable}
+use Rattle.pb_play.specs.Device.{ShowsDevice}
 use Rattle.pb_play.specs.Items.{ItemsFit}
 use Rattle.pb_play.specs.Shape.{IsDevice, IsCalls}
 use Rattle.pb_play.specs.Shown.{ShowsMemory}
@@ -62,10 +62,10 @@ pub record IsHeldFor (p : CodeWorld) (side : ℕ) : Type 0 where
   pub holds : world.memory.owner ≡ Held client side
   pub there : client < clients_of world.memory
 
--- it shows what an event makes of a world
+-- it shows what an event that is played makes of a world
 pub record HasStepped (w : World) (event : Event) (new : CodeWorld) (answer : Stepped) : Type 0 where
   pub next : World
-  pub step : Next w event next answer
+  pub step : NextPlayed w event next answer
   pub shows : ShowsWorld new next
 
 -- an event may happen
@@ -86,7 +86,7 @@ PlaysExactly old event new answer =
 abbrev pub HappensWhereItMay : CodeWorld → Event → CodeWorld → Stepped → Type 0
 HappensWhereItMay old event new answer = (w : World) → IsWorld w → ShowsWorld old w → MayHappen w event → HasStepped w event new answer
 
--- an event happened, or it can't and nothing changed
+-- an event happened, as it is played, or it can't and nothing changed
 abbrev pub PlaysEvent : CodeWorld → Event → CodeWorld → Stepped → Type 0
 PlaysEvent old event new answer =
     (w : World) → IsWorld w → ShowsWorld old w → HasStepped w event new answer ⊎ ((answer ≡ Impossible) × (new ≡ old) × ¬ IsPossible w event)
@@ -94,28 +94,8 @@ PlaysEvent old event new answer =
 -- it shows what an event's own move makes of a world
 pub record MovesTo (w : World) (event : Event) (new : CodeWorld) (answer : Stepped) : Type 0 where
   pub next : World
-  pub move : Moves w event next answer
+  pub move : PlaysMove w event next answer
   pub shows : ShowsWorld new next
-
--- what the holder is at has no move before it that nobody sees
-abbrev pub IsReady : Work → ℕ → Progress → Type 0
-IsReady NoWork clients progress = Unit {0}
-IsReady Settling clients progress = IsCallable progress
-IsReady (Scanning client part seen) clients progress = client < clients
-IsReady Calling clients progress = IsCallable progress
-IsReady (Filling count) clients progress = Unit {0}
-IsReady (Noting from to) clients progress = Unit {0}
-IsReady (GivingUp from to) clients progress = Unit {0}
-
--- the holder is at calls of the device
-abbrev pub IsCalling : Work → Type 0
-IsCalling NoWork = ⊥
-IsCalling Settling = Unit {0}
-IsCalling (Scanning client part seen) = ⊥
-IsCalling Calling = Unit {0}
-IsCalling (Filling count) = ⊥
-IsCalling (Noting from to) = ⊥
-IsCalling (GivingUp from to) = ⊥
 
 -- a call is due next
 pub record IsDue (w : World) : Type 0 where
@@ -124,9 +104,8 @@ pub record IsDue (w : World) : Type 0 where
 
 -- it shows what moves that nobody sees make of a world, after which there is none before the holder's next step
 pub record GoesOn (w : World) (new : CodeWorld) : Type 0 where
-  pub count : ℕ
   pub middle : World
-  pub silents : Silents count w middle
+  pub before : ComesBefore (IsReady w.memory.work (clients_of w.memory) w.progress) w middle
   pub shows : ShowsWorld new middle
   pub owner : middle.memory.owner ≡ w.memory.owner
   pub clients : clients_of middle.memory ≡ clients_of w.memory
@@ -144,9 +123,8 @@ pub record CallsNext (w : World) (new : CodeWorld) : Type 0 where
 
 -- where it was being opened again, the region is open now
 pub record IsOpened (w : World) (new : CodeWorld) : Type 0 where
-  pub count : ℕ
   pub middle : World
-  pub silents : Silents count w middle
+  pub before : ComesBefore (IsRunning w.memory.owner) w middle
   pub shows : ShowsWorld new middle
   pub start : middle.memory.start ≡ w.memory.start
   pub book : middle.memory.book ≡ w.memory.book

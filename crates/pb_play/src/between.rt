@@ -5,7 +5,7 @@ ghost use Rattle.pb_core.specs.Memory.{Held, Settling, Calling, clients_of};
 ghost use Rattle.pb_core.specs.World.{World as CoreWorld};
 ghost use Rattle.pb_pmem.specs.Count.{Rose};
 ghost use Rattle.pb_core.specs.declared.event.Event.{Event};
-ghost use Rattle.pb_play.specs.Device.{IsCallable};
+ghost use Rattle.pb_core.specs.Play.{IsCallable};
 ghost use Rattle.pb_play.specs.Seats.{counted, with_ahead, recorded, begins_scan, settled, fails, drops};
 ghost use Rattle.pb_play.specs.Worlds.{IsBuilt, IsHeldFor, HasRoom, LosesOneAtMost, ShowsWorld, GoesOn, CallsNext, IsDue, MovesTo};
 

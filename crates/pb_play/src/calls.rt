@@ -23,7 +23,8 @@ pub struct Calls {
 
 impl Calls {
     ghost use Rattle.pb_play.specs.Shape.{IsCalls, IsDevice, AreWithin};
-    ghost use Rattle.pb_play.specs.Device.{ShowsDevice, IsCallable, MakesCall, FailsCall};
+    ghost use Rattle.pb_play.specs.Device.{ShowsDevice, MakesCall, FailsCall};
+    ghost use Rattle.pb_core.specs.Play.{IsCallable};
 
     /// No calls, with memory for those of any round whose record has so many lines.
     pub fn fresh(alloc: Global, length: u32) -> Result<Self, AllocError>

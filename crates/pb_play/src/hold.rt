@@ -4,7 +4,8 @@ ghost use Rattle.pb_core.specs.declared.event.Event.{Event};
 ghost use Rattle.pb_core.specs.DeviceParts.{IsWorld};
 ghost use Rattle.pb_core.specs.Memory.{Held, clients_of};
 ghost use Rattle.pb_core.specs.World.{World as CoreWorld};
-ghost use Rattle.pb_play.specs.Worlds.{IsBuilt, IsShown, HasRoom, LosesOneAtMost, ShowsWorld, IsReady, MovesTo, HasStepped};
+ghost use Rattle.pb_play.specs.Worlds.{IsBuilt, IsShown, HasRoom, LosesOneAtMost, ShowsWorld, MovesTo, HasStepped};
+ghost use Rattle.pb_core.specs.Play.{IsReady};
 
 use crate::between::{call, go_on};
 use crate::publish::{fill, give_up, note};

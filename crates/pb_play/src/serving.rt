@@ -10,6 +10,7 @@ ghost use Rattle.pb_layout.specs.Slots.{PutsInFront};
 ghost use Rattle.pb_engine.specs.Asks.{answered_from, state_from};
 ghost use Rattle.pb_engine.specs.Next.{PutsEntries};
 ghost use Rattle.pb_comb.specs.Serving.{AreServable};
+ghost use Rattle.pb_core.specs.Play.{ListsRising};
 ghost use Rattle.pb_play.specs.Rounds.{with_rows};
 ghost use Rattle.pb_play.specs.Seats.{seat_at};
 ghost use Rattle.pb_play.specs.Serving.{HasServed};
@@ -79,7 +80,8 @@ pub fn serve_heap(
         → kind_of state ≡ head.now.kind
         → size_of state ≡ head.now.size
         → LinesRepresent (object_part head.now before.now) state
-        → HasServed head.now before.now state asks.now next.old next.new seats.old seats.new }
+        → HasServed head.now before.now state asks.now next.old next.new seats.old seats.new
+        × ListsRising (state_from state asks.now) (object_part head.now next.new) }
 {
     let first = (1 + KEPT_REQUESTS * head.clients) as usize;
     serve(heap, head, asks, before, next, seats);

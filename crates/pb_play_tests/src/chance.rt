@@ -3,7 +3,7 @@ ghost use Rattle.std.specs.Prelude.{◌<◌};
 
 use pb_core::Event;
 use pb_image::How;
-use pb_object::{Ask, Op};
+use pb_object::{Ask, Kind, Op};
 
 /// How many clients there are.
 pub const CLIENTS: u32 = 3;
@@ -45,20 +45,28 @@ impl Chance {
         }
     }
 
-    // A client puts something into register 0.
-    fn ask(&mut self, client: u32, number: u64) -> Event {
-        let op = Op {
-            code: 2,
-            a: 0,
-            b: u64::from(self.below(100)),
-            c: 0,
+    // Puts something into register 0 of a map, or into a queue, or takes something from that.
+    fn op(&mut self, kind: Kind) -> Op {
+        let value = u64::from(self.below(100)) + 1;
+        let (code, a, b) = match kind {
+            Kind::Queue => match self.below(2) {
+                0 => (10, value, 0),
+                _ => (11, 0, 0),
+            },
+            _ => (2, 0, value),
         };
+        Op { code, a, b, c: 0 }
+    }
+
+    // A client asks for something.
+    fn ask(&mut self, kind: Kind, client: u32, number: u64) -> Event {
+        let op = self.op(kind);
         Event::Ask(Ask { client, number, op })
     }
 
-    /// The next event: mostly a step of some client, sometimes a failing call, and now and then a crash. The clients ask with these
-    /// numbers.
-    pub fn event(&mut self, next: &[u64; 3]) -> Event {
+    /// The next event for an object of a kind: mostly a step of some client, sometimes a failing call, and now and then a crash. The clients
+    /// ask with these numbers.
+    pub fn event(&mut self, kind: Kind, next: &[u64; 3]) -> Event {
         let client = self.below(CLIENTS);
         match self.below(64) {
             0 => self.crash(),
@@ -68,7 +76,7 @@ impl Chance {
             },
             2 => Event::ReopenFail { how: self.how() },
             3..=9 => Event::Reopen,
-            10..=20 => self.ask(client, next[client as usize]),
+            10..=20 => self.ask(kind, client, next[client as usize]),
             _ => Event::Step { client },
         }
     }

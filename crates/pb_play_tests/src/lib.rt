@@ -8,6 +8,10 @@ mod kinds;
 #[cfg(test)]
 mod played;
 #[cfg(test)]
+mod queues;
+#[cfg(test)]
 mod random;
 #[cfg(test)]
 mod rows;
+#[cfg(test)]
+mod seen;

@@ -3,6 +3,7 @@ ghost use Rattle.std.specs.Prelude.{◌<◌};
 
 use crate::chance::{CLIENTS, Chance};
 use crate::played::Played;
+use crate::seen::{Seen, is_crash};
 use pb_core::{Event, Stepped};
 use pb_object::{Ask, Kind};
 use std::alloc::Global;
@@ -28,13 +29,12 @@ fn version(played: &Played) -> u64 {
     played.line(record(played) + 25).words[1]
 }
 
-// What is known of the clients: the number of each one's last answered request, and the one that it asks with next; and how many
-// requests were answered.
+// What is known of the clients: the number of each one's last answered request, and the one that it asks with next; and what was seen.
 #[derive(Drop)]
 struct Known {
     answered: [u64; 3],
     next: [u64; 3],
-    count: u32,
+    seen: Seen,
 }
 
 impl Known {
@@ -44,7 +44,7 @@ impl Known {
         assert!(rt; client < 3);
         self.answered[client] = ask.number;
         self.next[client] = ask.number.saturating_add(1);
-        self.count = self.count.saturating_add(1);
+        self.seen.answer();
     }
 
     // All is on the device as it has to be: no request that was answered is lost, and each recorded one was applied once.
@@ -60,6 +60,7 @@ impl Known {
 
     // A crash left what is on the device alone.
     fn reopen(&mut self, played: &Played) {
+        self.seen.crash();
         for client in 0..CLIENTS {
             self.next[client as usize] = recorded(played, client).saturating_add(1);
         }
@@ -77,42 +78,37 @@ impl Known {
     }
 }
 
-fn is_crash(event: &Event) -> bool {
-    match event {
-        Event::Ask(_) => false,
-        Event::Step { .. } => false,
-        Event::Fail { .. } => false,
-        Event::Crash { .. } => true,
-        Event::Reopen => false,
-        Event::ReopenFail { .. } => false,
-    }
-}
-
-// Plays a thousand events by chance, and answers how many requests were answered.
-fn play(rt: &impl Abort, alloc: Global, seed: u32) -> u32 {
+// Plays a thousand events by chance, and answers what was seen.
+fn play(rt: &impl Abort, alloc: Global, seed: u32) -> Seen {
     let mut chance = Chance::new(seed);
     let mut played = Played::fresh(rt, alloc, Kind::Map, CLIENTS, 4);
     let mut known = Known {
         answered: [0; 3],
         next: [1; 3],
-        count: 0,
+        seen: Seen::default(),
     };
     for _ in 0..1000 {
-        let event = chance.event(&known.next);
+        let event = chance.event(Kind::Map, &known.next);
         if played.spare() > 0 {
             let answer = played.make(rt, &event);
             known.note(rt, &played, &event, &answer);
         }
     }
     known.check(rt, &played);
-    known.count
+    known.seen
 }
 
 #[test]
 fn by_chance(rt: HostRuntime) {
-    let mut count = 0u32;
+    let mut seen = Seen::default();
     for seed in 1..1001 {
-        count = count.saturating_add(play(&rt, rt.alloc(), seed));
+        seen.add(&play(&rt, rt.alloc(), seed));
     }
-    assert!(rt; count > 1000, "answered {count}");
+    assert!(rt; seen.answered > 1000, "answered {}", seen.answered);
+    assert!(rt; seen.crashes > 1000, "crashes {}", seen.crashes);
+    assert!(rt;
+        seen.answered_after > 500,
+        "after a crash {}",
+        seen.answered_after
+    );
 }

@@ -1,5 +1,5 @@
 //! Engines on the device in memory, over which scripts are run.
-ghost use Rattle.std.specs.Prelude.{◌≡◌, ◌≤◌, None, OnOk};
+ghost use Rattle.std.specs.Prelude.{◌≡◌, true, OnOk};
 
 use pb_comb::Comb;
 use pb_engine::Engine;
@@ -18,7 +18,9 @@ use pb_script::parse_script;
 use pb_stack::Stack;
 use std::alloc::{AllocError, Global};
 use std::process::Abort;
+use std::sync::Wait;
 use std::test::Fail;
+use std::thread::Threads;
 
 /// A region, and the requests that are served in it.
 #[derive(Clone, Copy)]
@@ -31,9 +33,8 @@ pub struct Session {
 
 // Settles where the engine isn't sure, so that nothing is in doubt.
 fn settle<E: Engine>(engine: &mut E) -> Result<(), DeviceFault>
-    ensures { OnOk result ((E.seen engine.new).doubt ≡ None) }
+    ensures { OnOk result ((E.seen engine.new).sure ≡ true) }
 {
-    let _ = engine.clients();
     if engine.sure() {
         return Ok(());
     }
@@ -43,26 +44,41 @@ fn settle<E: Engine>(engine: &mut E) -> Result<(), DeviceFault>
     }
 }
 
-// Runs a script over an engine.
-fn run<E: Engine>(
-    rt: &impl Abort,
+// Runs a session's requests one after the other, each by itself.
+fn run<R: Wait + Threads + Sync + Abort, E: Engine + Send>(
+    rt: &R,
     alloc: Global,
-    engine: &mut E,
+    mut engine: E,
     script: &str,
-) -> Result<(), AllocError> {
-    assert!(rt; settle(engine).is_ok() && script.len() < 65536);
+) -> Result<E, AllocError> {
+    for line in script.lines() {
+        engine = run_line(rt, alloc, engine, line)?;
+    }
+    Ok(engine)
+}
+
+// Runs a request over an engine.
+fn run_line<R: Wait + Threads + Sync + Abort, E: Engine + Send>(
+    rt: &R,
+    alloc: Global,
+    mut engine: E,
+    line: &str,
+) -> Result<E, AllocError> {
+    assert!(rt; settle(&mut engine).is_ok() && line.len() < 65536);
     let clients = engine.clients();
-    let Ok(asks) = parse_script(alloc, script.as_bytes(), E::KIND, clients) else {
-        panic!(rt; "the script is read");
+    let Ok(asks) = parse_script(alloc, line.as_bytes(), E::KIND, clients) else {
+        panic!(rt; "the request is read");
     };
     let mut outcomes = vec![in alloc; Outcome::Left; asks.len()]?;
-    run_script(engine, &asks, &mut outcomes, &OpenGate);
-    Ok(())
+    match run_script(rt, alloc, engine, &asks, &mut outcomes, &OpenGate) {
+        Ok(engine) => Ok(engine),
+        Err((refused, _)) => Err(refused),
+    }
 }
 
 /// An engine of an object with one side on this device, after the session's requests.
-pub fn comb<O: Object>(
-    rt: &impl Abort,
+pub fn comb<R: Wait + Threads + Sync + Abort, O: Object + Send>(
+    rt: &R,
     alloc: Global,
     device: Image,
     session: &Session,
@@ -71,17 +87,14 @@ pub fn comb<O: Object>(
     assert!(rt; 1 <= clients && clients <= 16);
     assert!(rt; 1 <= size && size <= 1024);
     match Comb::<O, Image>::fresh(alloc, device, clients, size) {
-        Ok(mut comb) => {
-            run(rt, alloc, &mut comb, session.script)?;
-            Ok(comb)
-        }
+        Ok(comb) => Ok(run(rt, alloc, comb, session.script)?),
         Err(refused) => Err(Fail::from(refused.why)),
     }
 }
 
 // The same of a queue.
-fn queue(
-    rt: &impl Abort,
+fn queue<R: Wait + Threads + Sync + Abort>(
+    rt: &R,
     alloc: Global,
     device: Image,
     session: &Session,
@@ -90,21 +103,22 @@ fn queue(
     assert!(rt; 1 <= clients && clients <= 16);
     assert!(rt; 1 <= size && size <= 1024);
     match TwinQueue::<Image>::fresh(alloc, device, clients, size) {
-        Ok(mut queue) => {
-            run(rt, alloc, &mut queue, session.script)?;
-            Ok(queue)
-        }
+        Ok(queue) => Ok(run(rt, alloc, queue, session.script)?),
         Err(refused) => Err(Fail::from(refused.why)),
     }
 }
 
 /// The device after the session's requests.
-pub fn served(rt: &impl Abort, alloc: Global, session: &Session) -> Result<Image, Fail> {
+pub fn served<R: Wait + Threads + Sync + Abort>(
+    rt: &R,
+    alloc: Global,
+    session: &Session,
+) -> Result<Image, Fail> {
     let device = Image::zero(alloc, 1024)?;
     match session.kind {
-        Kind::Map => Ok(comb::<RegMap>(rt, alloc, device, session)?.close()),
-        Kind::Stack => Ok(comb::<Stack>(rt, alloc, device, session)?.close()),
-        Kind::Heap => Ok(comb::<MinHeap>(rt, alloc, device, session)?.close()),
+        Kind::Map => Ok(comb::<R, RegMap>(rt, alloc, device, session)?.close()),
+        Kind::Stack => Ok(comb::<R, Stack>(rt, alloc, device, session)?.close()),
+        Kind::Heap => Ok(comb::<R, MinHeap>(rt, alloc, device, session)?.close()),
         Kind::Queue => Ok(queue(rt, alloc, device, session)?.close()),
     }
 }

@@ -9,7 +9,9 @@ use pb_object::Kind;
 use pb_region_report::{Unwritten, write_map, write_report};
 use std::alloc::Global;
 use std::process::Abort;
+use std::sync::Wait;
 use std::test::Fail as TestFail;
+use std::thread::Threads;
 
 fn session_of(row: &Row) -> Session {
     Session {
@@ -37,7 +39,11 @@ fn report(
 }
 
 /// The region of each row is opened and reported.
-pub fn are_reported(rt: &impl Abort, alloc: Global, rows: &[Row]) -> Result<(), TestFail> {
+pub fn are_reported<R: Wait + Threads + Sync + Abort>(
+    rt: &R,
+    alloc: Global,
+    rows: &[Row],
+) -> Result<(), TestFail> {
     for row in rows {
         let device = served(rt, alloc, &session_of(row))?;
         let (answer, sink) = report(rt, alloc, device, 4096, 7)?;
@@ -48,8 +54,8 @@ pub fn are_reported(rt: &impl Abort, alloc: Global, rows: &[Row]) -> Result<(), 
 }
 
 /// Of each row's report so many bytes leave, and no more.
-pub fn are_cut_off(
-    rt: &impl Abort,
+pub fn are_cut_off<R: Wait + Threads + Sync + Abort>(
+    rt: &R,
     alloc: Global,
     rows: &[Row],
     room: u32,
@@ -78,8 +84,8 @@ fn failing(alloc: Global) -> Result<Image, TestFail> {
 }
 
 /// The second of two rounds is in doubt. The report is of the first one.
-pub fn is_reported_in_doubt(
-    rt: &impl Abort,
+pub fn is_reported_in_doubt<R: Wait + Threads + Sync + Abort>(
+    rt: &R,
     alloc: Global,
     script: &'static str,
     text: &str,
@@ -90,7 +96,7 @@ pub fn is_reported_in_doubt(
         size: 4,
         script,
     };
-    let comb = comb::<RegMap>(rt, alloc, failing(alloc)?, &session)?;
+    let comb = comb::<R, RegMap>(rt, alloc, failing(alloc)?, &session)?;
     assert!(rt; !comb.sure());
     let mut sink = ByteSink::new(alloc, 4096, 4096, &[])?;
     assert_eq!(rt; write_map(&mut sink, &comb), Ok(()));

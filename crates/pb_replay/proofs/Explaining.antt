@@ -9,15 +9,16 @@ use Rattle.pb_layout.proofs.OneRecovery.{parts}
 use Rattle.pb_layout.proofs.OneStanding.{one_standing}
 use Rattle.pb_core.specs.declared.event.Stepped.{Stepped}
 use Rattle.pb_core.specs.Laws.{IsOneHistory, IsKeptBy}
+use Rattle.pb_core.proofs.Plays.{run_of}
 use Rattle.pb_core.proofs.Runs.{one_history}
 use Rattle.pb_replay.specs.Explained.{IsExplained}
 use Rattle.pb_replay.specs.Replay.{events_of, IsReplayed}
 
-pub explained : (head : Header) (bytes : List ℕ) (answers : List Stepped) (s : Standing) (replayed : IsReplayed head bytes answers s) → IsExplained replayed.last answers s
+pub explained : (head : Header) (bytes : List ℕ) (answers : List Stepped) (s : Standing) (replayed : IsReplayed head bytes answers s) → IsExplained head replayed.last answers s
 explained head bytes answers s replayed =
     let w = replayed.last in
     let made = replayed.made in
-    let one : IsOneHistory w answers = one_history head made.first w (events_of replayed.repeats) answers made.fresh made.run in
+    let one : IsOneHistory head w answers = one_history head made.first w (events_of replayed.repeats) answers made.fresh (run_of made.first (events_of replayed.repeats) answers w made.play) in
     let image = contents w.tale.base w.tale.log in
     let left : IsKeptBy w answers image = one.images image (IsCrashImage-contents w.tale.base w.tale.log) in
     record {

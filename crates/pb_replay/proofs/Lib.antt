@@ -1,5 +1,6 @@
 mod Explaining
 mod Making
+pub mod OneReplay
 mod Playings
 mod Surveys
 mod Writing

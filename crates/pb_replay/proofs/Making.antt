@@ -12,8 +12,9 @@ use Rattle.pb_core.specs.declared.event.Stepped.TheVariants.{Went, Done, Busy, F
 use Rattle.pb_core.specs.DeviceParts.{IsWorld}
 use Rattle.pb_core.specs.Laws.{IsCaused}
 use Rattle.pb_core.specs.World.{World}
-use Rattle.pb_core.specs.WorldMoves.{Next, Run}
+use Rattle.pb_core.specs.Play.{NextPlayed, Play}
 use Rattle.pb_core.proofs.Causes.{caused-event}
+use Rattle.pb_core.proofs.Plays.{next_of, run_of}
 use Rattle.pb_core.proofs.Runs.{fresh_is_world, run_keeps}
 use Rattle.pb_play.specs.declared.world.World.{World as CodeWorld}
 use Rattle.pb_play.specs.Worlds.{HasStepped, PlaysEvent, IsBegun}
@@ -42,28 +43,28 @@ given-more answers answer = given-append answers (answer ∷ []) ∙ ap (λ (l :
 
 -- One more event
 
-run-more : (first : World) (events : List Event) (answers : List Stepped) (last : World) (event : Event) (new : World) (answer : Stepped) → Run first events answers last → Next last event new answer → Run first (events ++ event ∷ []) (answers ++ answer ∷ []) new
-run-more first [] answers last event new answer (none, same) next =
-    (new, answer, [], ap (λ (l : List Stepped). l ++ answer ∷ []) none, subst (λ (w : World). Next w event new answer) same next, (refl, refl))
-run-more first (e ∷ events) answers last event new answer (middle, a, rest, all, step, run) next =
-    (middle, a, rest ++ answer ∷ [], ap (λ (l : List Stepped). l ++ answer ∷ []) all, step, run-more middle events rest last event new answer run next)
+play-more : (first : World) (events : List Event) (answers : List Stepped) (last : World) (event : Event) (new : World) (answer : Stepped) → Play first events answers last → NextPlayed last event new answer → Play first (events ++ event ∷ []) (answers ++ answer ∷ []) new
+play-more first [] answers last event new answer (none, same) next =
+    (new, answer, [], ap (λ (l : List Stepped). l ++ answer ∷ []) none, subst (λ (w : World). NextPlayed w event new answer) same next, (refl, refl))
+play-more first (e ∷ events) answers last event new answer (middle, a, rest, all, step, play) next =
+    (middle, a, rest ++ answer ∷ [], ap (λ (l : List Stepped). l ++ answer ∷ []) all, step, play-more middle events rest last event new answer play next)
 
-made-more : {head : Header} {events : List Event} {answers : List Stepped} {last new : World} {event : Event} {answer : Stepped} → AreMade head events answers last → Next last event new answer → AreMade head (events ++ event ∷ []) (answers ++ answer ∷ []) new
+made-more : {head : Header} {events : List Event} {answers : List Stepped} {last new : World} {event : Event} {answer : Stepped} → AreMade head events answers last → NextPlayed last event new answer → AreMade head (events ++ event ∷ []) (answers ++ answer ∷ []) new
 made-more {head} {events} {answers} {last} {new} {event} {answer} made next = record {
   first = made.first;
   fresh = made.fresh;
-  run = run-more made.first events answers last event new answer made.run next;
+  play = play-more made.first events answers last event new answer made.play next;
 }
 
 pub made_world : {head : Header} {events : List Event} {answers : List Stepped} {last : World} → AreMade head events answers last → IsWorld last
-made_world {head} {events} {answers} {last} made = (run_keeps made.first events answers last (fresh_is_world made.fresh) made.run).world
+made_world {head} {events} {answers} {last} made = (run_keeps made.first events answers last (fresh_is_world made.fresh) (run_of made.first events answers last made.play)).world
 
 -- nothing happened yet
 pub none_made : {head : Header} (p : Playing) → IsBegun head p.world → p.answers.items ≡ [] → HasMade head [] p
 none_made {head} p begun none = record {
   answers = [];
   last = begun.world;
-  made = record { first = begun.world; fresh = begun.fresh; run = (refl, refl) };
+  made = record { first = begun.world; fresh = begun.fresh; play = (refl, refl) };
   shows = begun.shows;
   listed = none ∙ sym given-none;
 }
@@ -132,7 +133,7 @@ happened made plays some = elim (plays made.last (made_world made.made) made.sho
 -- one that was isn't possible
 pub stuck : {head : Header} {events : List Event} {event : Event} {old : Playing} {world : CodeWorld} {answer : Stepped} (made : HasMade head events old) → PlaysEvent old.world event world answer → answer ≡ Impossible → IsStuck head events event
 stuck {head} {events} {event} {old} {world} {answer} made plays none = elim (plays made.last (made_world made.made) made.shows) [
-  | inl stepped ↦ absurd (subst (λ (a : Stepped). IsCaused a stepped.next.memory) none (caused-event made.last event stepped.next answer (made_world made.made) stepped.step))
+  | inl stepped ↦ absurd (subst (λ (a : Stepped). IsCaused a made.last.memory stepped.next.memory) none (caused-event made.last event stepped.next answer (made_world made.made) (next_of stepped.step)))
   | inr refused ↦ record { answers = made.answers; stuck = made.last; made = made.made; impossible = refused.2 }
 ]
 

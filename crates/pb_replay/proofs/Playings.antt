@@ -25,11 +25,11 @@ use Rattle.pb_replay.proofs.Surveys.{Said, says_nothing, says_refused, says_even
 
 -- Events of lines
 
-events-none : events_of [] ≡ []
+pub events-none : events_of [] ≡ []
 unfolding events_of
 events-none = refl
 
-events-push : (repeats : List Repeat) (more : Repeat) → events_of (repeats ++ more ∷ []) ≡ events_of repeats ++ replicate more.times more.event
+pub events-push : (repeats : List Repeat) (more : Repeat) → events_of (repeats ++ more ∷ []) ≡ events_of repeats ++ replicate more.times more.event
 unfolding events_of
 events-push [] more = append-nil (replicate more.times more.event)
 events-push (repeat ∷ repeats) more =

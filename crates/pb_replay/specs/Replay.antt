@@ -7,9 +7,9 @@ use Rattle.pb_layout.specs.Recovered.{Represents}
 use Rattle.pb_core.specs.declared.event.Event.{Event}
 use Rattle.pb_core.specs.declared.event.Stepped.{Stepped}
 use Rattle.pb_core.specs.Fresh.{IsFresh}
+use Rattle.pb_core.specs.Play.{Play}
 use Rattle.pb_core.specs.Possible.{IsPossible}
 use Rattle.pb_core.specs.World.{World}
-use Rattle.pb_core.specs.WorldMoves.{Run}
 use Rattle.pb_region_report.specs.AnyEngine.{view_of, ListsHeap}
 use Rattle.pb_script.specs.declared.event.Repeat.{Repeat}
 use Rattle.pb_script.specs.declared.schedule.TheConstants.{MOST_EVENTS}
@@ -26,13 +26,13 @@ unfoldable pub events_of : List Repeat → List Event
 events_of [] = []
 events_of (repeat ∷ repeats) = replicate repeat.times repeat.event ++ events_of repeats
 
--- these events happened one after the other in a world over a region that was just formatted, with these answers
+-- these events were played one after the other in a world over a region that was just formatted, with these answers
 pub record AreMade (head : Header) (events : List Event) (answers : List Stepped) (last : World) : Type 0 where
   pub first : World
   pub fresh : IsFresh head first
-  pub run : Run first events answers last
+  pub play : Play first events answers last
 
--- a source is the schedule of events that happened, with these answers, and the device is left with this standing
+-- a source is the schedule of events that were played, with these answers, and the device is left with this standing
 pub record IsReplayed (head : Header) (bytes : List ℕ) (answers : List Stepped) (s : Standing) : Type 0 where
   pub few : HasFewEvents (lines bytes)
   pub repeats : List Repeat
@@ -41,7 +41,7 @@ pub record IsReplayed (head : Header) (bytes : List ℕ) (answers : List Stepped
   pub made : AreMade head (events_of repeats) answers last
   pub stands : Represents (contents last.tale.base last.tale.log) s
 
--- Lines of which the last is the first that is refused. The events of those before it happened ..
+-- Lines of which the last is the first that is refused. The events of those before it were played ..
 pub record AreMadeBefore (head : Header) (front : List (List ℕ)) (before : List Repeat) : Type 0 where
   pub schedule : IsSchedule head.kind head.clients front before
   pub answers : List Stepped
@@ -52,7 +52,7 @@ pub record AreMadeBefore (head : Header) (front : List (List ℕ)) (before : Lis
 abbrev pub NamesNoEvent : Header → List (List ℕ) → Type 0
 NamesNoEvent head lines = (repeats : List Repeat) → IsSchedule head.kind head.clients lines repeats → ⊥
 
--- .. or one that can't happen: so often it did, and then it wasn't possible
+-- .. or one that can't happen: so often it was played, and then it wasn't possible in the world that was reached
 pub record NamesImpossible (head : Header) (lines : List (List ℕ)) (before : List Repeat) : Type 0 where
   pub line : Repeat
   pub schedule : IsSchedule head.kind head.clients lines (before ++ line ∷ [])

@@ -10,7 +10,9 @@ use crate::watched::{CountingDevice, LookingGate};
 use pb_io::{OpenGate, Sink, SinkFault};
 use std::alloc::Global;
 use std::process::Abort;
+use std::sync::Wait;
 use std::sync::atomic::{AtomicU64, Ordering};
+use std::thread::Threads;
 
 // Formatting is 25 operations, the first round of this map is 15, and the second one is nine.
 #[test]
@@ -75,7 +77,12 @@ impl Sink for KeepingSink {
 }
 
 // The status of a run into a sink that fails when it is asked to pass on, and how often that was.
-fn passed_on(rt: &impl Abort, alloc: Global, command: &str, script: &str) -> (u8, u64) {
+fn passed_on(
+    rt: &(impl Abort + Wait + Threads + Sync),
+    alloc: Global,
+    command: &str,
+    script: &str,
+) -> (u8, u64) {
     let mut source = source(rt, alloc, script.as_bytes(), 4096, &[]);
     let mut sink = KeepingSink { faults: 0 };
     let device = zeros(rt, alloc, 4096);

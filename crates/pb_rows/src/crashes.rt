@@ -1,17 +1,26 @@
 //! Crashes at each moment of a run, and the runs after them.
 use crate::rows::{
-    FIRST, FIRST_REPORT, FRESH, FRESH_TWO, NEW, Row, TWO, TWO_REPORT, call, calls, chained,
+    FIRST, FIRST_REPORT, FRESH, FRESH_TWO, NEW, Row, TWO, call, calls, chained, report_two,
 };
 use crate::run::{failing, run};
 use pb_image::{Call, How, Image};
 use std::alloc::Global;
 use std::process::Abort;
+use std::sync::Wait;
+use std::thread::Threads;
 
 // Which picks a crash has.
 const PICKS: [u64; 3] = [0, 1, 7];
 
 // The device that a crash leaves.
-fn after(rt: &impl Abort, alloc: Global, image: &Image, moment: u32, cut: u32, pick: u64) -> Image {
+fn after(
+    rt: &(impl Abort + Wait + Threads + Sync),
+    alloc: Global,
+    image: &Image,
+    moment: u32,
+    cut: u32,
+    pick: u64,
+) -> Image {
     assert!(rt; moment as usize <= image.log().len());
     let (least, greatest) = image.cuts(moment);
     assert!(rt; least <= cut && cut <= greatest);
@@ -40,7 +49,13 @@ fn want(moment: u32, cut: u32, pick: u64) -> (&'static str, u8) {
 const REPORT: Row = ("report", "", FIRST_REPORT, 0, None);
 
 // Runs the first script behind a crash, makes a region first where there is none, and reports the same in the end.
-fn goes_on(rt: &impl Abort, alloc: Global, device: Image, text: &'static str, status: u8) {
+fn goes_on(
+    rt: &(impl Abort + Wait + Threads + Sync),
+    alloc: Global,
+    device: Image,
+    text: &'static str,
+    status: u8,
+) {
     let mut device = call(rt, alloc, device, &("run", FIRST, text, status, None));
     if status == 7 {
         device = call(rt, alloc, device, &FRESH);
@@ -49,7 +64,7 @@ fn goes_on(rt: &impl Abort, alloc: Global, device: Image, text: &'static str, st
 }
 
 // The images of a moment, at each cut and pick.
-fn first_at(rt: &impl Abort, alloc: Global, image: &Image, moment: u32) {
+fn first_at(rt: &(impl Abort + Wait + Threads + Sync), alloc: Global, image: &Image, moment: u32) {
     assert!(rt; moment as usize <= image.log().len());
     let (least, greatest) = image.cuts(moment);
     for cut in least..=greatest {
@@ -74,20 +89,18 @@ fn of_one_client(rt: HostRuntime) {
     }
 }
 
-// What is asked behind a crash is new or kept, and a request that is kept leaves none before it new.
+// What is asked behind a crash is new or kept.
 fn is_answered(text: &[u8]) -> bool {
     text == b"0 1 new was 0 1\n1 1 new was 0 1\n".as_slice()
         || text == b"0 1 kept was 0 1\n1 1 new was 0 1\n".as_slice()
+        || text == b"0 1 new was 0 1\n1 1 kept was 0 1\n".as_slice()
         || text == b"0 1 kept was 0 1\n1 1 kept was 0 1\n".as_slice()
 }
 
-const TWO_KEPT: [Row; 2] = [
-    ("run", TWO, "0 1 kept was 0 1\n1 1 kept was 0 1\n", 0, None),
-    ("report", "", TWO_REPORT, 0, None),
-];
+const TWO_KEPT: Row = ("run", TWO, "0 1 kept was 0 1\n1 1 kept was 0 1\n", 0, None);
 
 // Runs two clients' script behind a crash.
-fn two_go_on(rt: &impl Abort, alloc: Global, device: Image) {
+fn two_go_on(rt: &(impl Abort + Wait + Threads + Sync), alloc: Global, device: Image) {
     let (done, sink) = run(rt, alloc, "run", TWO, 4096, device);
     let device = if done.status.code() == 7 {
         assert!(rt; sink.bytes() == b"none\n".as_slice());
@@ -101,10 +114,11 @@ fn two_go_on(rt: &impl Abort, alloc: Global, device: Image) {
         assert!(rt; done.status.code() == 0 && is_answered(sink.bytes()));
         done.device
     };
-    calls(rt, alloc, device, &TWO_KEPT);
+    let device = call(rt, alloc, device, &TWO_KEPT);
+    report_two(rt, alloc, device);
 }
 
-fn two_at(rt: &impl Abort, alloc: Global, image: &Image, moment: u32) {
+fn two_at(rt: &(impl Abort + Wait + Threads + Sync), alloc: Global, image: &Image, moment: u32) {
     assert!(rt; moment as usize <= image.log().len());
     let (least, greatest) = image.cuts(moment);
     for cut in least..=greatest {
@@ -117,7 +131,8 @@ fn two_at(rt: &impl Abort, alloc: Global, image: &Image, moment: u32) {
 #[test]
 fn of_two_clients(rt: HostRuntime) {
     let image = chained(&rt, rt.alloc(), &[FRESH_TWO]);
-    for moment in 0..66 {
+    let end = u32::try_from(image.log().len()).expect(&rt, "a moment");
+    for moment in 0..=end {
         two_at(&rt, rt.alloc(), &image, moment);
     }
 }

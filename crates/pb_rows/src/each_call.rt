@@ -1,21 +1,18 @@
 //! A run whose device fails at one of its calls, at each of them and in each way, and the runs after it: in the end each
 //! request took effect once.
 use crate::rows;
-use crate::rows::{TWO, TWO_REPORT};
+use crate::rows::{FIRST, FIRST_REPORT, FRESH_TWO, NEW, TWO, report_two};
 use crate::run::{failing, run};
 use pb_image::{Call, How, Image};
 use std::alloc::Global;
 use std::process::Abort;
+use std::sync::Wait;
+use std::thread::Threads;
 
-// The words that make a region, a script, and what the script prints and the region reports where nothing fails.
-type Case = (&'static str, &'static str, &'static str, &'static str);
+/// The words that make a region, a script, and what the script prints and the region reports where nothing fails.
+pub type Case = (&'static str, &'static str, &'static str, &'static str);
 
-const MAP: Case = (
-    "fresh map 2 4",
-    TWO,
-    "0 1 new was 0 1\n1 1 new was 0 1\n",
-    TWO_REPORT,
-);
+const MAP: Case = ("fresh map 1 4", FIRST, NEW, FIRST_REPORT);
 
 const QUEUE: Case = (
     "fresh queue 1 2",
@@ -24,11 +21,16 @@ const QUEUE: Case = (
     "kind queue\nclients 1\nsize 2\nrounds 4 2\nclient 0 6 take item 2 1\nitems 1\nitem 4 2\n",
 );
 
-// Which calls fail, and how. What is torn but no write, or fenced but no sync, leaves nothing.
-type Way = (Call, How);
+/// Which calls fail, and how. What is torn but no write, or fenced but no sync, leaves nothing.
+pub type Way = (Call, How);
 
 // Runs the script again to its end, and makes the region first where there is none.
-fn to_the_end(rt: &impl Abort, alloc: Global, device: Image, case: &Case) -> Image {
+fn to_the_end(
+    rt: &(impl Abort + Wait + Threads + Sync),
+    alloc: Global,
+    device: Image,
+    case: &Case,
+) -> Image {
     let (fresh, script, text, _) = *case;
     let (done, sink) = run(rt, alloc, "run", script, 4096, device);
     if done.status.code() == 0 {
@@ -39,7 +41,13 @@ fn to_the_end(rt: &impl Abort, alloc: Global, device: Image, case: &Case) -> Ima
 }
 
 // Runs a script whose device fails at a call of a kind, and goes on. Answers whether there was such a call.
-fn fails_at(rt: &impl Abort, alloc: Global, case: &Case, (call, how): Way, nth: u64) -> bool {
+fn fails_at(
+    rt: &(impl Abort + Wait + Threads + Sync),
+    alloc: Global,
+    case: &Case,
+    (call, how): Way,
+    nth: u64,
+) -> bool {
     let (fresh, script, _, report) = *case;
     let device = failing(rt, alloc, call, &[nth], how);
     let (done, _) = run(rt, alloc, fresh, script, 4096, device);
@@ -52,8 +60,14 @@ fn fails_at(rt: &impl Abort, alloc: Global, case: &Case, (call, how): Way, nth: 
     status == 6
 }
 
-// Fails at each call of a kind in one way. There are so many of them.
-fn fails_at_each(rt: &impl Abort, alloc: Global, case: &Case, way: Way, calls: u64) {
+/// Fails at each call of a kind in one way. There are so many of them.
+pub fn fails_at_each(
+    rt: &(impl Abort + Wait + Threads + Sync),
+    alloc: Global,
+    case: &Case,
+    way: Way,
+    calls: u64,
+) {
     let end = calls.saturating_add(1);
     for nth in 1..end {
         assert!(rt; fails_at(rt, alloc, case, way, nth), "call {nth}");
@@ -63,9 +77,9 @@ fn fails_at_each(rt: &impl Abort, alloc: Global, case: &Case, way: Way, calls: u
 
 #[test]
 fn of_a_map(rt: HostRuntime) {
-    fails_at_each(&rt, rt.alloc(), &MAP, (Call::Any, How::Left), 66);
-    fails_at_each(&rt, rt.alloc(), &MAP, (Call::Any, How::Done), 66);
-    fails_at_each(&rt, rt.alloc(), &MAP, (Call::Write, How::Torn(9)), 42);
+    fails_at_each(&rt, rt.alloc(), &MAP, (Call::Any, How::Left), 50);
+    fails_at_each(&rt, rt.alloc(), &MAP, (Call::Any, How::Done), 50);
+    fails_at_each(&rt, rt.alloc(), &MAP, (Call::Write, How::Torn(9)), 26);
     fails_at_each(&rt, rt.alloc(), &MAP, (Call::Sync, How::Fenced), 3);
 }
 
@@ -79,4 +93,36 @@ fn of_a_queue_that_leaves_something(rt: HostRuntime) {
     fails_at_each(&rt, rt.alloc(), &QUEUE, (Call::Any, How::Done), 112);
     fails_at_each(&rt, rt.alloc(), &QUEUE, (Call::Write, How::Torn(9)), 64);
     fails_at_each(&rt, rt.alloc(), &QUEUE, (Call::Sync, How::Fenced), 7);
+}
+
+// Two clients share the region, whose device fails at a call, if there are so many. One of them goes on where the other one's request is in
+// doubt, and the script runs to its end behind that.
+fn two_fail_at(
+    rt: &(impl Abort + Wait + Threads + Sync),
+    alloc: Global,
+    (call, how): Way,
+    nth: u64,
+) {
+    let device = failing(rt, alloc, call, &[nth], how);
+    let (done, _) = run(rt, alloc, FRESH_TWO.0, TWO, 4096, device);
+    let status = done.status.code();
+    assert!(rt; status == 0 || status == 6, "call {nth}");
+    let mut device = done.device;
+    device.failing(Vec::new(alloc));
+    let (done, _) = run(rt, alloc, "run", TWO, 4096, device);
+    let device = if done.status.code() == 7 {
+        rows::call(rt, alloc, done.device, &FRESH_TWO)
+    } else {
+        assert!(rt; done.status.code() == 0, "call {nth}");
+        done.device
+    };
+    report_two(rt, alloc, device);
+}
+
+#[test]
+fn of_two_clients(rt: HostRuntime) {
+    for nth in 1..67 {
+        two_fail_at(&rt, rt.alloc(), (Call::Any, How::Left), nth);
+        two_fail_at(&rt, rt.alloc(), (Call::Any, How::Done), nth);
+    }
 }

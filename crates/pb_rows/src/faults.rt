@@ -4,6 +4,8 @@ use crate::run::{failing, run_into, sink, source, zeros};
 use pb_image::{Call, How, Image};
 use std::alloc::Global;
 use std::process::Abort;
+use std::sync::Wait;
+use std::thread::Threads;
 
 const RUN: Row = ("run", FIRST, "0 1 kept was 0 1\n0 2 new is 77 1\n", 0, None);
 
@@ -50,7 +52,13 @@ const NOT_EXCHANGED: [Row; 3] = [
     REPORT,
 ];
 
-fn over(rt: &impl Abort, alloc: Global, call: Call, nth: u64, rows: &[Row]) -> Image {
+fn over(
+    rt: &(impl Abort + Wait + Threads + Sync),
+    alloc: Global,
+    call: Call,
+    nth: u64,
+    rows: &[Row],
+) -> Image {
     calls(rt, alloc, failing(rt, alloc, call, &[nth], How::Left), rows)
 }
 
@@ -68,7 +76,7 @@ fn of_the_device(rt: HostRuntime) {
 // The status of the first script, what it prints, and how many operations it makes, where the source fails at these reads, and the sink
 // takes so many bytes, so many at once.
 fn streamed(
-    rt: &impl Abort,
+    rt: &(impl Abort + Wait + Threads + Sync),
     alloc: Global,
     fails: &[u64],
     room: u32,

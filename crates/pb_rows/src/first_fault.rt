@@ -7,6 +7,8 @@ use pb_io::Source;
 use pb_pmem::Pmem;
 use std::alloc::Global;
 use std::process::Abort;
+use std::sync::Wait;
+use std::thread::Threads;
 
 // The most bytes that a source may have.
 const LIMIT: usize = 4_194_304;
@@ -15,7 +17,11 @@ const LIMIT: usize = 4_194_304;
 const SOURCE_READS: u64 = 6;
 
 // How the first script ends whose source fails at these reads: its status, and the source's count of faults.
-fn over_source(rt: &impl Abort, alloc: Global, fails: &[u64]) -> (u8, u64) {
+fn over_source(
+    rt: &(impl Abort + Wait + Threads + Sync),
+    alloc: Global,
+    fails: &[u64],
+) -> (u8, u64) {
     let mut source = source(rt, alloc, FIRST.as_bytes(), 5, fails);
     let mut sink = sink(rt, alloc, 4096, 4096);
     let device = zeros(rt, alloc, 4096);
@@ -24,7 +30,11 @@ fn over_source(rt: &impl Abort, alloc: Global, fails: &[u64]) -> (u8, u64) {
 }
 
 // How the first script ends over this device.
-fn over_device(rt: &impl Abort, alloc: Global, device: Image) -> Done<Image> {
+fn over_device(
+    rt: &(impl Abort + Wait + Threads + Sync),
+    alloc: Global,
+    device: Image,
+) -> Done<Image> {
     let mut source = source(rt, alloc, FIRST.as_bytes(), 4096, &[]);
     let mut sink = sink(rt, alloc, 4096, 4096);
     run_into(rt, alloc, "fresh map 1 4", &mut source, &mut sink, device)
@@ -68,7 +78,12 @@ const CALLS: [(Call, u64); 5] = [
 ];
 
 // How the first script ends that fails at these calls of a kind: its status, and the device's count of faults.
-fn over_failing(rt: &impl Abort, alloc: Global, call: Call, fails: &[u64]) -> (u8, u64) {
+fn over_failing(
+    rt: &(impl Abort + Wait + Threads + Sync),
+    alloc: Global,
+    call: Call,
+    fails: &[u64],
+) -> (u8, u64) {
     let done = over_device(rt, alloc, failing(rt, alloc, call, fails, How::Left));
     (done.status.code(), done.device.faults())
 }

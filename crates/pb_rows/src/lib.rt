@@ -6,6 +6,8 @@ mod calls;
 #[cfg(test)]
 mod crashes;
 #[cfg(test)]
+mod drills;
+#[cfg(test)]
 mod each_call;
 #[cfg(test)]
 mod faults;

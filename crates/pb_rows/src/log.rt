@@ -5,6 +5,8 @@ use pb_fixtures::{MAGIC, back, whole, word};
 use pb_pmem::LogOp;
 use std::alloc::Global;
 use std::process::Abort;
+use std::sync::Wait;
+use std::thread::Threads;
 
 // The operations of formatting a map of this size with one client, whose records have ten lines, from line 9 on.
 fn format_ops(size: u64) -> [LogOp; 25] {
@@ -75,7 +77,13 @@ fn same(log: &[LogOp], prefix: &[LogOp], after: &[LogOp]) -> bool {
 }
 
 // The log of a run on a device of zeros has these operations.
-fn makes(rt: &impl Abort, alloc: Global, row: &Row, prefix: &[LogOp], after: &[LogOp]) -> bool {
+fn makes(
+    rt: &(impl Abort + Wait + Threads + Sync),
+    alloc: Global,
+    row: &Row,
+    prefix: &[LogOp],
+    after: &[LogOp],
+) -> bool {
     let device = call(rt, alloc, zeros(rt, alloc, 4096), row);
     same(device.log(), prefix, after)
 }

@@ -3,9 +3,17 @@ use crate::run::{run_into, sink, source, zeros};
 use pb_image::Image;
 use std::alloc::Global;
 use std::process::Abort;
+use std::sync::Wait;
+use std::thread::Threads;
 
 // A source of so many bytes, all of one comment without an end.
-fn comment(rt: &impl Abort, alloc: Global, len: usize, text: &str, status: u8) {
+fn comment(
+    rt: &(impl Abort + Wait + Threads + Sync),
+    alloc: Global,
+    len: usize,
+    text: &str,
+    status: u8,
+) {
     let bytes = vec![in alloc; b'#'; len].expect(rt, "memory");
     let (sunk, code, device) = mapped(rt, alloc, &bytes, 4096);
     let has_region = !device.log().is_empty();
@@ -14,7 +22,12 @@ fn comment(rt: &impl Abort, alloc: Global, len: usize, text: &str, status: u8) {
 }
 
 // What `fresh map 1 1` prints over a source, its status, and the device.
-fn mapped(rt: &impl Abort, alloc: Global, bytes: &[u8], room: u32) -> (Vec<u8>, u8, Image) {
+fn mapped(
+    rt: &(impl Abort + Wait + Threads + Sync),
+    alloc: Global,
+    bytes: &[u8],
+    room: u32,
+) -> (Vec<u8>, u8, Image) {
     let mut source = source(rt, alloc, bytes, 65536, &[]);
     let mut sink = sink(rt, alloc, 2_097_152, 65536);
     let device = zeros(rt, alloc, room);
@@ -30,7 +43,12 @@ fn bytes(rt: HostRuntime) {
 }
 
 // So many lines of a client that asks with rising numbers, each with this text behind its number.
-fn numbered(rt: &impl Abort, alloc: Global, count: u32, text: &str) -> String {
+fn numbered(
+    rt: &(impl Abort + Wait + Threads + Sync),
+    alloc: Global,
+    count: u32,
+    text: &str,
+) -> String {
     let mut lines = String::new(alloc);
     for number in 1..=count {
         let digits = number.to_string(alloc).expect(rt, "memory");

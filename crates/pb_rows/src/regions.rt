@@ -4,11 +4,13 @@ use pb_image::Image;
 use pb_pmem::{LINES, Pmem};
 use std::alloc::Global;
 use std::process::Abort;
+use std::sync::Wait;
+use std::thread::Threads;
 
 // A word of a device's line, and what it is changed to.
 type Change = (u32, u32, u64);
 
-fn changed(rt: &impl Abort, device: Image, changes: &[Change]) -> Image {
+fn changed(rt: &(impl Abort + Wait + Threads + Sync), device: Image, changes: &[Change]) -> Image {
     let mut device = device;
     for (line, word, to) in changes {
         assert!(rt; *line < LINES && *word < 8 && device.set_word(*line, *word, *to).is_ok());
@@ -17,7 +19,13 @@ fn changed(rt: &impl Abort, device: Image, changes: &[Change]) -> Image {
 }
 
 // Makes a region by a row, changes it, and makes the call of another row on it.
-fn found(rt: &impl Abort, alloc: Global, made: &[Row], changes: &[Change], row: &Row) {
+fn found(
+    rt: &(impl Abort + Wait + Threads + Sync),
+    alloc: Global,
+    made: &[Row],
+    changes: &[Change],
+    row: &Row,
+) {
     let device = changed(rt, chained(rt, alloc, made), changes);
     call(rt, alloc, device, row);
 }

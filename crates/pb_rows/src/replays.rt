@@ -3,6 +3,8 @@ use crate::rows::{Row, each_alone};
 use crate::run::{run_into, sink, source, zeros};
 use std::alloc::Global;
 use std::process::Abort;
+use std::sync::Wait;
+use std::thread::Threads;
 
 // A put and a get; a crash before the get's index word was waited for leaves it. Opening is cut off by further crashes, or isn't.
 const CRASHES: [Row; 2] = [
@@ -56,6 +58,48 @@ const ANSWERS: [Row; 5] = [
         "replay heap 1 4",
         "# nothing yet\n\n",
         "kind heap\nclients 1\nsize 4\nrounds 0\nclient 0 none\nitems 0\n",
+        0,
+        Some(0),
+    ),
+];
+
+// Each kind of object, by the steps that its rounds take: the words of the request, the turn, the row and the scan, then the cell of an
+// item, the lines of the record that differ and the last five calls, the words of the row, and the turn.
+const KINDS: [Row; 5] = [
+    (
+        "replay stack 1 4",
+        "ask 0 1 push 5\nstep 0 27\nask 0 2 pop\nstep 0 26\n",
+        "0 1 done depth 1\n0 2 done item 5\nkind stack\nclients 1\nsize 4\nrounds 2\nclient 0 2 pop item 5\nitems 0\n",
+        0,
+        Some(0),
+    ),
+    // The pop's index word is called, and a crash takes it back.
+    (
+        "replay stack 1 4",
+        "ask 0 1 push 5\nstep 0 27\nask 0 2 pop\nstep 0 19\ncrash 3 0\nopen 5\n",
+        "0 1 done depth 1\nkind stack\nclients 1\nsize 4\nrounds 1\nclient 0 1 push 5 depth 1\nitems 1\nitem 5\n",
+        0,
+        Some(0),
+    ),
+    (
+        "replay heap 1 4",
+        "ask 0 1 insert 9\nstep 0 27\nask 0 2 insert 3\nstep 0 28\nask 0 3 removemin\nstep 0 27\n",
+        "0 1 done size 1\n0 2 done size 2\n0 3 done item 3\nkind heap\nclients 1\nsize 4\nrounds 3\nclient 0 3 removemin item 3\nitems 1\nitem 9\n",
+        0,
+        Some(0),
+    ),
+    (
+        "replay queue 1 2",
+        "ask 0 1 put 1\nstep 0 28\nask 0 2 take\nstep 0 26\n",
+        "0 1 done at 0\n0 2 done item 1 0\nkind queue\nclients 1\nsize 2\nrounds 1 1\nclient 0 2 take item 1 0\nitems 0\n",
+        0,
+        Some(0),
+    ),
+    // The call of the item's cell fails; the next try settles, and puts it.
+    (
+        "replay queue 1 2",
+        "ask 0 1 put 7\nstep 0 13\nfail 0 left\nstep 0 2\nstep 0 28\n",
+        "0 1 fault 0 1\n0 1 done at 0\nkind queue\nclients 1\nsize 2\nrounds 1 0\nclient 0 1 put 7 at 0\nitems 1\nitem 7 0\n",
         0,
         Some(0),
     ),
@@ -116,13 +160,18 @@ fn answers(rt: HostRuntime) {
 }
 
 #[test]
+fn kinds(rt: HostRuntime) {
+    each_alone(&rt, rt.alloc(), &KINDS);
+}
+
+#[test]
 fn refused(rt: HostRuntime) {
     each_alone(&rt, rt.alloc(), &REFUSED);
 }
 
 // What a replay prints over a source that fails at these calls, and its status.
 fn replayed(
-    rt: &impl Abort,
+    rt: &(impl Abort + Wait + Threads + Sync),
     alloc: Global,
     bytes: &[u8],
     fails: &[u64],
@@ -137,7 +186,7 @@ fn replayed(
 }
 
 // So many lines that can't happen.
-fn openings(rt: &impl Abort, alloc: Global, count: u32) -> String {
+fn openings(rt: &(impl Abort + Wait + Threads + Sync), alloc: Global, count: u32) -> String {
     let mut lines = String::new(alloc);
     for _ in 0..count {
         lines.push_str("open\n").expect(rt, "memory");

@@ -5,10 +5,12 @@ use pb_io::{ByteSink, ByteSource, Gate, OpenGate, Sink, Source};
 use pb_pmem::Pmem;
 use std::alloc::Global;
 use std::process::Abort;
+use std::sync::Wait;
+use std::thread::Threads;
 
 /// A source in memory that gives so many bytes at a time, and fails at these calls.
 pub fn source(
-    rt: &impl Abort,
+    rt: &(impl Abort + Wait + Threads + Sync),
     alloc: Global,
     bytes: &[u8],
     piece: u32,
@@ -19,17 +21,28 @@ pub fn source(
 }
 
 /// A sink in memory that takes so many bytes, so many at a time.
-pub fn sink(rt: &impl Abort, alloc: Global, room: u32, piece: u32) -> ByteSink {
+pub fn sink(
+    rt: &(impl Abort + Wait + Threads + Sync),
+    alloc: Global,
+    room: u32,
+    piece: u32,
+) -> ByteSink {
     ByteSink::new(alloc, room, piece, &[]).expect(rt, "memory")
 }
 
 /// A device of zeros with this room.
-pub fn zeros(rt: &impl Abort, alloc: Global, room: u32) -> Image {
+pub fn zeros(rt: &(impl Abort + Wait + Threads + Sync), alloc: Global, room: u32) -> Image {
     Image::zero(alloc, room).expect(rt, "memory")
 }
 
 /// A device of zeros that fails in this way at these calls of a kind.
-pub fn failing(rt: &impl Abort, alloc: Global, call: Call, fails: &[u64], how: How) -> Image {
+pub fn failing(
+    rt: &(impl Abort + Wait + Threads + Sync),
+    alloc: Global,
+    call: Call,
+    fails: &[u64],
+    how: How,
+) -> Image {
     let mut failures = Vec::new(alloc);
     for nth in fails {
         let nth = *nth;
@@ -43,7 +56,7 @@ pub fn failing(rt: &impl Abort, alloc: Global, call: Call, fails: &[u64], how: H
 }
 
 // The words of a command line, which are parted by white space.
-fn words(rt: &impl Abort, alloc: Global, line: &str) -> Vec<String> {
+fn words(rt: &(impl Abort + Wait + Threads + Sync), alloc: Global, line: &str) -> Vec<String> {
     let mut words = Vec::new(alloc);
     for word in line.split_whitespace() {
         let word = word.to_string(alloc).expect(rt, "memory");
@@ -54,7 +67,7 @@ fn words(rt: &impl Abort, alloc: Global, line: &str) -> Vec<String> {
 
 /// A run of a command line over any source, sink, device and gate.
 pub fn run_over<S: Source, K: Sink, P: Pmem + Send, G: Gate>(
-    rt: &impl Abort,
+    rt: &(impl Abort + Wait + Threads + Sync),
     alloc: Global,
     command: &str,
     (source, sink): (&mut S, &mut K),
@@ -62,12 +75,12 @@ pub fn run_over<S: Source, K: Sink, P: Pmem + Send, G: Gate>(
     gate: &G,
 ) -> Done<P> {
     let words = words(rt, alloc, command);
-    top(alloc, &words, source, sink, device, gate)
+    top(rt, alloc, &words, source, sink, device, gate)
 }
 
 /// A run of a command line over a script and a sink that are in memory, with a gate that is open.
 pub fn run_into(
-    rt: &impl Abort,
+    rt: &(impl Abort + Wait + Threads + Sync),
     alloc: Global,
     command: &str,
     source: &mut ByteSource,
@@ -79,7 +92,7 @@ pub fn run_into(
 
 /// A run of a command line over a script, and its sink. Source and sink move at most `piece` bytes a call.
 pub fn run(
-    rt: &impl Abort,
+    rt: &(impl Abort + Wait + Threads + Sync),
     alloc: Global,
     command: &str,
     script: &str,

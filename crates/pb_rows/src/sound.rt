@@ -5,9 +5,17 @@ use pb_image::Sound;
 use pb_io::OpenGate;
 use std::alloc::Global;
 use std::process::Abort;
+use std::sync::Wait;
+use std::thread::Threads;
 
 // Makes a call over such a device, and gives it back.
-fn call(rt: &impl Abort, alloc: Global, device: Sound, words: &str, text: &str) -> Sound {
+fn call(
+    rt: &(impl Abort + Wait + Threads + Sync),
+    alloc: Global,
+    device: Sound,
+    words: &str,
+    text: &str,
+) -> Sound {
     let mut source = source(rt, alloc, FIRST.as_bytes(), 4096, &[]);
     let mut sink = sink(rt, alloc, 4096, 4096);
     let done = run_over(

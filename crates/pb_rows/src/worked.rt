@@ -1,6 +1,6 @@
 //! Scripts on devices of zeros: what is printed, with which status, and how long the log is then.
 use crate::rows::{
-    FIRST, FIRST_REPORT, FRESH, FRESH_TWO, Row, TWO, TWO_REPORT, chained, each_alone,
+    FIRST, FIRST_REPORT, FRESH, FRESH_TWO, Row, TWO, chained, each_alone, report_two,
 };
 
 // What is asked again is answered again.
@@ -25,16 +25,9 @@ const AGAIN: [Row; 6] = [
     ("fresh map 1 4", FIRST, "taken\n", 7, Some(61)),
 ];
 
-const TWO_AGAIN: [Row; 3] = [
+const TWO_AGAIN: [Row; 2] = [
     FRESH_TWO,
-    (
-        "run",
-        TWO,
-        "0 1 kept was 0 1\n1 1 kept was 0 1\n",
-        0,
-        Some(69),
-    ),
-    ("report", "", TWO_REPORT, 0, Some(69)),
+    ("run", TWO, "0 1 kept was 0 1\n1 1 kept was 0 1\n", 0, None),
 ];
 
 const EMPTY: [Row; 2] = [
@@ -163,13 +156,14 @@ const WORDS: [Row; 4] = [
     ("", "", "usage\n", 2, Some(0)),
 ];
 
+// Sixteen clients ask for registers of their own.
 const SIXTEEN: [Row; 1] = [(
     "fresh map 16 16",
     "0 1 put 0 5\n1 1 put 1 6\n2 1 put 2 7\n3 1 put 3 8\n4 1 put 4 9\n5 1 put 5 10\n6 1 put 6 11\n7 1 put 7 12\n\
-        8 1 get 0\n9 1 get 1\n10 1 get 2\n11 1 get 3\n12 1 get 4\n13 1 get 5\n14 1 get 6\n15 1 get 16\n0 2 get 7\n",
+        8 1 get 8\n9 1 get 9\n10 1 get 10\n11 1 get 11\n12 1 get 12\n13 1 get 13\n14 1 get 14\n15 1 get 16\n0 2 get 0\n",
     "0 1 new was 0 1\n1 1 new was 0 1\n2 1 new was 0 1\n3 1 new was 0 1\n4 1 new was 0 1\n5 1 new was 0 1\n\
-        6 1 new was 0 1\n7 1 new was 0 1\n8 1 new is 5 1\n9 1 new is 6 1\n10 1 new is 7 1\n11 1 new is 8 1\n\
-        12 1 new is 9 1\n13 1 new is 10 1\n14 1 new is 11 1\n15 1 new nokey\n0 2 new is 12 1\n",
+        6 1 new was 0 1\n7 1 new was 0 1\n8 1 new is 0 0\n9 1 new is 0 0\n10 1 new is 0 0\n11 1 new is 0 0\n\
+        12 1 new is 0 0\n13 1 new is 0 0\n14 1 new is 0 0\n15 1 new nokey\n0 2 new is 5 1\n",
     0,
     None,
 )];
@@ -177,7 +171,8 @@ const SIXTEEN: [Row; 1] = [(
 #[test]
 fn chains(rt: HostRuntime) {
     chained(&rt, rt.alloc(), &AGAIN);
-    chained(&rt, rt.alloc(), &TWO_AGAIN);
+    let two = chained(&rt, rt.alloc(), &TWO_AGAIN);
+    report_two(&rt, rt.alloc(), two);
     chained(&rt, rt.alloc(), &EMPTY);
     chained(&rt, rt.alloc(), &QUEUE);
     chained(&rt, rt.alloc(), &KEPT);

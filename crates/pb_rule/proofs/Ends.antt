@@ -1,5 +1,5 @@
 -- What is left once one seat has all views.
-use Rattle.std.proofs.Common.{◌≡◌, ◌⊎◌, ℕ, ◌<◌, ◌≤◌, true, false, List, [], ◌∷◌, ◌++◌, Option, Some, None, IfSome, sym, refl, ap, ◌∙◌, subst, inl, inr, arith}
+use Rattle.std.proofs.Common.{length, ◌≡◌, ◌⊎◌, ℕ, ◌<◌, ◌≤◌, true, false, List, [], ◌∷◌, ◌++◌, Option, Some, None, IfSome, sym, refl, ap, ◌∙◌, subst, inl, inr, arith}
 use Rattle.std.proofs.lemmas.Bool.{false≢true}
 use mathlib.Core.Option as maybe
 use mathlib.Core.Option.{some, some-injective}
@@ -9,13 +9,14 @@ use Rattle.pb_object.specs.declared.kind.Kind.{Kind}
 use Rattle.pb_object.specs.History.{History, state_after, IsLegal, IsLegalRound}
 use Rattle.pb_object.specs.Standing.{Standing, kept_list_of}
 use Rattle.pb_core.specs.Client.{Client, is_holding}
-use Rattle.pb_core.specs.Memory.{Owner, Free, Held, Closed, Engine, Resting, Doubtful, clients_of, shown}
+use Rattle.pb_core.specs.Memory.{Owner, Free, Held, Closed, Engine, Resting, Doubtful, clients_of, shown, Work}
 use Rattle.pb_core.specs.MemoryParts.{IsClient, IsMemory, HasEntries, AreDated}
 use Rattle.pb_core.proofs.Turns.{free_suits}
 use Rattle.pb_engine.specs.View.{EngineView}
+use Rattle.pb_engine.specs.Good.{HasCome}
 use Rattle.pb_rule.specs.Opening.{IsThere, AreFree, AreEnded, HasEnded}
-use Rattle.pb_rule.specs.View.{HasComeBy, PassView}
-use Rattle.pb_rule.specs.Rule.{called_round, recorded_by, SuitsEngine, LiesAt, IsBelow, AreServed, Fault, AreApart, AreViews, Keeps}
+use Rattle.pb_rule.specs.View.{PassView}
+use Rattle.pb_rule.specs.Rule.{called_round, recorded_by, SuitsEngine, LiesAt, IsBelow, AreServed, Fault, AreApart, AreViews, Keeps, failed_calls, AreOfClients}
 use Rattle.pb_rule.proofs.Known.{started}
 use Rattle.pb_rule.proofs.Movers.{is_memory}
 
@@ -75,10 +76,11 @@ module _ {X : Type 0} (seen : X → EngineView) (kind : Kind) (start : EngineVie
       ahead = r.m.ahead;
       legal = subst (λ (t : Standing). IsLegal t r.m.published) (started r.run).0 (subst (λ (past : History). IsLegal r.m.start (past ++ r.m.published)) (started r.run).1 is.history.legal);
       next = subst (λ (t : Standing). IfSome r.m.ahead (IsLegalRound (state_after t r.m.published))) (started r.run).0 (subst (λ (past : History). IfSome r.m.ahead (IsLegalRound (state_after r.m.start (past ++ r.m.published)))) (started r.run).1 is.history.next);
-      come = come (free_suits is nobody).1;
       doubt = doubt (free_suits is nobody).1;
       sound = r.tied.sound;
       faults = r.faults;
+      come = come (free_suits is nobody).1;
+      clients = subst (λ (t : Standing). AreOfClients t.clients r.faults) (started r.run).0 r.clients;
       apart = apart_wider 0 r.faults r.m.noted r.engine.device.faults (omega (arith, is.low, r.tied.count)) r.apart;
       passes = ended r seat views mine;
     }),
@@ -108,9 +110,13 @@ module _ {X : Type 0} (seen : X → EngineView) (kind : Kind) (start : EngineVie
       same_some : {A : Type 0} {a b : A} → some a ≡ some b → a ≡ b
       same_some e = some-injective _ _ e
 
-      come : ((final.1.0.m.engine ≡ Resting) × (final.1.0.m.ahead ≡ None)) ⊎ (final.1.0.m.engine ≡ Doubtful) → HasComeBy start final.1.0.engine final.1.0.m.published
-      come (inl calm) = subst (λ (e : Engine). HasComeBy start r.engine (recorded_by e r.m.ahead r.m.published)) calm.0 r.tied.come
-      come (inr doubtful) = subst (λ (e : Engine). HasComeBy start r.engine (recorded_by e r.m.ahead r.m.published)) doubtful r.tied.come
+      at_rest : (e : Engine) → final.1.0.m.engine ≡ e → HasCome start final.1.0.engine (recorded_by e final.1.0.m.ahead final.1.0.m.published) (length final.1.0.faults)
+      at_rest e is_e = subst (λ (e : Engine). HasCome start r.engine (recorded_by e r.m.ahead r.m.published) (length r.faults)) is_e
+          (subst (λ (w : Work). HasCome start r.engine (recorded_by r.m.engine r.m.ahead r.m.published) (failed_calls w r.faults)) (free_suits is nobody).0 r.tied.come)
+
+      come : ((final.1.0.m.engine ≡ Resting) × (final.1.0.m.ahead ≡ None)) ⊎ (final.1.0.m.engine ≡ Doubtful) → HasCome start final.1.0.engine final.1.0.m.published (length final.1.0.faults)
+      come (inl calm) = at_rest Resting calm.0
+      come (inr doubtful) = at_rest Doubtful doubtful
 
       doubt : ((final.1.0.m.engine ≡ Resting) × (final.1.0.m.ahead ≡ None)) ⊎ (final.1.0.m.engine ≡ Doubtful)
           → ((final.1.0.engine.sure ≡ true) × (final.1.0.m.ahead ≡ None)) ⊎ ((final.1.0.engine.sure ≡ false) × (called_round final.1.0.engine.doubt ≡ final.1.0.m.ahead))

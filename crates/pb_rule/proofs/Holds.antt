@@ -1,5 +1,5 @@
 -- The steps of the holder of the turn that go on: scanning, filling, and noting a fault.
-use Rattle.std.proofs.Common.{◌≡◌, ◌≢◌, ℕ, suc, ◌+◌, ◌*◌, ◌%◌, ◌<◌, ◌≤◌, eqb, Bool, true, false, List, [], ◌∷◌, ◌++◌, length, get_or, set, Option, Some, sym, refl, ap, ◌∙◌, subst, inl, inr, arith}
+use Rattle.std.proofs.Common.{◌≡◌, ◌≢◌, ℕ, suc, ◌+◌, ◌*◌, ◌%◌, ◌<◌, ◌≤◌, eqb, Bool, true, false, List, [], ◌∷◌, ◌++◌, length, get_or, set, Option, Some, sym, refl, ap, ◌∙◌, subst, inl, inr, arith, length-append}
 use Rattle.std.specs.Prelude.{if◌then◌else◌}
 use Rattle.std.proofs.lemmas.Bool.{eqb-true, eqb-false, eq-eqb, ne_eqb, true≢false}
 use Rattle.std.proofs.lemmas.List.{append-nil}
@@ -24,11 +24,12 @@ use Rattle.pb_core.proofs.Scans.{the_scan, known_shown}
 use Rattle.pb_core.proofs.Turns.{the_holder}
 use Rattle.pb_engine.specs.Asks.{side_asked}
 use Rattle.pb_engine.specs.View.{EngineView}
+use Rattle.pb_engine.specs.Good.{HasCome}
 use Rattle.pb_rule.specs.View.{Look, Met, OwnRound, PassView}
 use Rattle.pb_rule.specs.Holding.{part_place, IsScanPlace, notes_now}
 use Rattle.pb_rule.specs.Plays.{Seated, the_view, HoldsSlot, engine_before, engine_now, scanning_now, filling_now, kept_number, ask_of, seen_with, part_found, scan_found, looked_by, scanned_on, AsksFor, ScanIsOver, scan_step, next_filled, own_by, filled_on, fill_step, noted, note_step}
 use Rattle.pb_rule.specs.Ready.{Ready, IsReadyFor}
-use Rattle.pb_rule.specs.Rule.{request_place, row_place, HasWords, IsTied, LiesAt, IsOwn, IsViewOf, Fault, AreApart, met_if, met_by, HasRun, Keeps}
+use Rattle.pb_rule.specs.Rule.{request_place, row_place, HasWords, IsTied, LiesAt, IsOwn, IsViewOf, Fault, AreApart, met_if, met_by, HasRun, Keeps, failed_calls, recorded_by, AreOfClients}
 use Rattle.pb_rule.proofs.Known.{tied_clients}
 use Rattle.pb_rule.proofs.Movers.{own_view, running, is_memory, keeps_rule, others_stay, held_lonely}
 use Rattle.pb_rule.proofs.Prepared.{called_to, IsPrepared, HasTurn, has_turn, prepares}
@@ -52,6 +53,10 @@ apart_more low [] high client from to after rose apart =
     (omega (arith, after, apart), rose, omega arith)
 apart_more low (fault ∷ faults) high client from to after rose apart =
     (apart.0, apart.1, apart_more fault.met.to faults high client from to after rose apart.2)
+
+clients_more : (clients : ℕ) (faults : List Fault) (client : ℕ) (met : Met) → client < clients → AreOfClients clients faults → AreOfClients clients (faults ++ record { client = client; met = met } ∷ [])
+clients_more clients [] client met below are = (below, tt)
+clients_more clients (fault ∷ faults) client met below are = (are.0, clients_more clients faults client met below are.1)
 
 met_own : (client : ℕ) (faults : List Fault) (met : Met) → met_by client (faults ++ record { client = client; met = met } ∷ []) ≡ met_by client faults ++ met ∷ []
 met_own client [] met = ap (λ (b : Bool). met_if b met []) (eq-eqb client client refl)
@@ -86,16 +91,16 @@ module _ {X : Type 0} (seen : X → EngineView) (kind : Kind) (start : EngineVie
       → get_elem? s.views id ≡ some (v ∷ []) → HasTurn seen kind start r v before
       → HasRun start (record (called_to r.m ahead engine count work) { rows = rows; noted = noted })
       → HasWords (record r.m { rows = rows; noted = noted }) words
-      → IsTied kind start (called_to r.m ahead engine count from) now
-      → AreApart 0 later noted → met ≡ met_by v.client later → ((d : ℕ) → d ≢ v.client → met_by d later ≡ met_by d r.faults)
+      → IsTied kind start (called_to r.m ahead engine count from) now r.faults → failed_calls from r.faults ≡ failed_calls work later
+      → AreApart 0 later noted → AreOfClients (clients_of r.m) later → met ≡ met_by v.client later → ((d : ℕ) → d ≢ v.client → met_by d later ≡ met_by d r.faults)
       → done ≡ work → IsOwn r.m.start r.m.published ahead own
       → Rule (record { words = words; homes = s.homes; views = set s.views id (record v { looked = looked; met = met; work = done; hand = Some now; own = own } ∷ []) })
-  goes_on {s} r id v before ahead engine count noted from work rows now looked met done own later words at turn run has tied apart met_is others done_is owns =
+  goes_on {s} r id v before ahead engine count noted from work rows now looked met done own later words at turn run has tied counted apart theirs met_is others done_is owns =
       keeps_rule seen kind start r id v (record v { looked = looked; met = met; work = done; hand = Some now; own = own }) new now later words s.homes at run
       (words_of new words has refl refl has.turn has.noted has.requests has.rows)
-      (record { standing = tied.standing; count = tied.count; suits = tied.suits; come = tied.come; sound = tied.sound })
+      (record { standing = tied.standing; count = tied.count; suits = tied.suits; come = subst (HasCome start now (recorded_by engine ahead r.m.published)) counted tied.come; sound = tied.sound })
       (subst (λ (o : Owner). LiesAt seen o now s.homes) (sym turn.owner) (subst (λ (o : Owner). LiesAt seen o r.engine s.homes) turn.owner r.lies))
-      r.below apart refl
+      r.below apart theirs refl
       (record {
         clients = own_is.clients;
         there = own_is.there;
@@ -117,7 +122,7 @@ module _ {X : Type 0} (seen : X → EngineView) (kind : Kind) (start : EngineVie
 
   -- what the holder called since its last step, as moves
   prepared : {s : State (Option X) (List PassView)} (r : Rule s) (id : ℕ) (me : Seated X) (now : Work → Work) → get_elem? s.views id ≡ some (the_view me ∷ []) → IsReadyFor seen kind now me → (turn : HasTurn seen kind start r (the_view me) (engine_before me))
-      → IsPrepared kind start r.m r.engine (engine_now seen me) (now (the_view me).work)
+      → IsPrepared kind start r.m r.faults r.engine (engine_now seen me) (now (the_view me).work)
   prepared r id me now at ready turn =
       let own = own_view seen kind start r id (the_view me) at in
       prepares seen kind start r (the_view me).client own.there turn.owner (the_view me).clients (engine_now seen me) (now (the_view me).work) ready.sound own.clients
@@ -131,6 +136,7 @@ module _ {X : Type 0} (seen : X → EngineView) (kind : Kind) (start : EngineVie
     pub next : Work
     pub run : HasRun start (record m { work = next })
     pub is : work ≡ next
+    pub quiet : (faults : List Fault) → failed_calls next faults ≡ length faults
 
   scans : {s : State (Option X) (List PassView)} (r : Rule s) (c : ℕ) (m : Memory) (now : EngineView) (side client found : ℕ) (part : Part) (asks : List Ask) → HasRun start m → m.owner ≡ r.m.owner → c < clients_of m → client < clients_of m → m.owner ≡ Held c side → now.standing ≡ known m
       → m.work ≡ Scanning client part asks → found ≡ m.requests client (part_place part) → Scanned m (part_found (kept_number now.standing) side found client part asks)
@@ -144,26 +150,31 @@ module _ {X : Type 0} (seen : X → EngineView) (kind : Kind) (start : EngineVie
         next = Scanning d (AtCode (m.requests d 0)) asks;
         run = step_on r c m _ run owner there (meeting (record { side = side; holds = holds; d = d; seen = asks; there = inside; at = at; due = sym found_is ∙ (eqb-true _ _ e ∙ due); is = refl; says = refl }));
         is = ap (λ (n : ℕ). Scanning d (AtCode n) asks) found_is;
+        quiet = λ faults. refl;
       }
       go false e = record {
         next = Scanning (suc d) AtNumber asks;
         run = step_on r c m _ run owner there (passing_over (record { side = side; holds = holds; d = d; seen = asks; there = inside; at = at; other = λ same. eqb-false _ _ e (found_is ∙ (same ∙ sym due)); is = refl; says = refl }));
         is = refl;
+        quiet = λ faults. refl;
       }
   scans r c m now side d found (AtCode number) asks run owner there inside holds standing at found_is = record {
     next = Scanning d (AtFirst number (m.requests d 1)) asks;
     run = step_on r c m _ run owner there (scanning_code (record { side = side; holds = holds; d = d; seen = asks; number = number; at = at; is = refl; says = refl }));
     is = ap (λ (n : ℕ). Scanning d (AtFirst number n) asks) found_is;
+    quiet = λ faults. refl;
   }
   scans r c m now side d found (AtFirst number code) asks run owner there inside holds standing at found_is = record {
     next = Scanning d (AtSecond number code (m.requests d 2)) asks;
     run = step_on r c m _ run owner there (scanning_first (record { side = side; holds = holds; d = d; seen = asks; number = number; code = code; at = at; is = refl; says = refl }));
     is = ap (λ (n : ℕ). Scanning d (AtSecond number code n) asks) found_is;
+    quiet = λ faults. refl;
   }
   scans r c m now side d found (AtSecond number code a) asks run owner there inside holds standing at found_is = record {
     next = Scanning d (AtThird number code a (m.requests d 3)) asks;
     run = step_on r c m _ run owner there (scanning_second (record { side = side; holds = holds; d = d; seen = asks; number = number; code = code; a = a; at = at; is = refl; says = refl }));
     is = ap (λ (n : ℕ). Scanning d (AtThird number code a n) asks) found_is;
+    quiet = λ faults. refl;
   }
   scans r c m now side d found (AtThird number code a b) asks run owner there inside holds standing at found_is = go (eqb (side_of (scanned m d number code a b).op) side) refl
     where
@@ -176,11 +187,13 @@ module _ {X : Type 0} (seen : X → EngineView) (kind : Kind) (start : EngineVie
         next = Scanning (suc d) AtNumber (asks ++ scanned m d number code a b ∷ []);
         run = step_on r c m _ run owner there (scanning_own (record { side = side; holds = holds; d = d; seen = asks; number = number; code = code; a = a; b = b; at = at; same = eqb-true _ _ e; is = refl; says = refl }));
         is = ap (λ (n : ℕ). Scanning (suc d) AtNumber (asks ++ ask_of d number code a b n ∷ [])) found_is;
+        quiet = λ faults. refl;
       }
       go false e = record {
         next = Scanning (suc d) AtNumber asks;
         run = step_on r c m _ run owner there (scanning_other (record { side = side; holds = holds; d = d; seen = asks; number = number; code = code; a = a; b = b; at = at; other = eqb-false _ _ e; is = refl; says = refl }));
         is = refl;
+        quiet = λ faults. refl;
       }
 
   -- a scan that is over
@@ -232,7 +245,7 @@ module _ {X : Type 0} (seen : X → EngineView) (kind : Kind) (start : EngineVie
       turn : HasTurn seen kind start r (the_view me) (engine_before me)
       turn = has_turn seen kind start r id (the_view me) (engine_before me) here ready.hand
 
-      p : IsPrepared kind start r.m r.engine (engine_now seen me) (scanning_now (the_view me).work)
+      p : IsPrepared kind start r.m r.faults r.engine (engine_now seen me) (scanning_now (the_view me).work)
       p = prepared r id me scanning_now here ready turn
 
       side : ℕ
@@ -268,7 +281,7 @@ module _ {X : Type 0} (seen : X → EngineView) (kind : Kind) (start : EngineVie
 
       rule : Rule (record { words = set s.words word (get_or s.words word 0); homes = s.homes; views = set s.views id (scanned_on (engine_now seen me) (get_or s.words word 0) (the_view me) ∷ []) })
       rule = goes_on r id v (engine_before me) p.ahead p.engine p.count r.m.noted (scanning_now v.work) next.next r.m.rows now (v.looked ++ looked_by (kept_number now.standing) found (scanning_now v.work)) v.met (scan_found (kept_number now.standing) (side_of v.body.ask.op) found (scanning_now v.work)) v.own r.faults (set s.words word found) here turn next.run
-          (same_words seen kind start s.words word r.words) p.tied r.apart (r.views id (v ∷ []) here).1 (λ d other. refl) work_is (p.stays never v.own turn.holder.own)
+          (same_words seen kind start s.words word r.words) p.tied (ap (λ (w : Work). failed_calls w r.faults) scan.at ∙ sym (next.quiet r.faults)) r.apart r.clients (r.views id (v ∷ []) here).1 (λ d other. refl) work_is (p.stays never v.own turn.holder.own)
 
       over : ScanIsOver (engine_now seen me) (scanned_on (engine_now seen me) (get_or s.words word 0) (the_view me))
       over = scan_over {m = record from { work = next.next }} v.client side (scanned_on now found v) now (memory_of r.kept next.run) own.there turn.owner p.tied.standing (tied_clients p.tied) refl own.body work_is
@@ -294,7 +307,7 @@ module _ {X : Type 0} (seen : X → EngineView) (kind : Kind) (start : EngineVie
       turn : HasTurn seen kind start r (the_view me) (engine_before me)
       turn = has_turn seen kind start r id (the_view me) (engine_before me) here ready.hand
 
-      p : IsPrepared kind start r.m r.engine (engine_now seen me) (filling_now (the_view me).work)
+      p : IsPrepared kind start r.m r.faults r.engine (engine_now seen me) (filling_now (the_view me).work)
       p = prepared r id me filling_now here ready turn
 
       from : Memory
@@ -326,7 +339,7 @@ module _ {X : Type 0} (seen : X → EngineView) (kind : Kind) (start : EngineVie
           (p.fills (4 * client + place) filled v.own turn.holder.own)))
 
       rule : Rule (record { words = set s.words word value; homes = s.homes; views = set s.views id (filled_on (engine_before me) (engine_now seen me) (the_view me) ∷ []) })
-      rule = goes_on r id v (engine_before me) p.ahead p.engine p.count r.m.noted (filling_now v.work) (Filling (suc (4 * client + place))) (with_row_word row client place value r.m.rows) now v.looked v.met (next_filled (filling_now v.work)) (own_by (engine_before me) v.body.front v.work v.own) r.faults (set s.words word value) here turn run words p.tied r.apart (r.views id (v ∷ []) here).1 (λ d other. refl) (ap next_filled filled) owns
+      rule = goes_on r id v (engine_before me) p.ahead p.engine p.count r.m.noted (filling_now v.work) (Filling (suc (4 * client + place))) (with_row_word row client place value r.m.rows) now v.looked v.met (next_filled (filling_now v.work)) (own_by (engine_before me) v.body.front v.work v.own) r.faults (set s.words word value) here turn run words p.tied (ap (λ (w : Work). failed_calls w r.faults) filled) r.apart r.clients (r.views id (v ∷ []) here).1 (λ d other. refl) (ap next_filled filled) owns
 
   -- Noting a fault
 
@@ -355,7 +368,7 @@ module _ {X : Type 0} (seen : X → EngineView) (kind : Kind) (start : EngineVie
       high : ℕ
       high = (engine_now seen me).device.faults
 
-      p : IsPrepared kind start r.m r.engine (engine_now seen me) (Noting (engine_before me).device.faults (engine_now seen me).device.faults)
+      p : IsPrepared kind start r.m r.faults r.engine (engine_now seen me) (Noting (engine_before me).device.faults (engine_now seen me).device.faults)
       p = prepared r id me (notes_now (engine_before me) (engine_now seen me)) here ready turn
 
       from : Memory
@@ -374,8 +387,9 @@ module _ {X : Type 0} (seen : X → EngineView) (kind : Kind) (start : EngineVie
       never stored e = cc
 
       rule : Rule (record { words = set s.words 1 count; homes = s.homes; views = set s.views id (noted (engine_before me) (engine_now seen me) (the_view me) ∷ []) })
-      rule = goes_on r id v (engine_before me) p.ahead p.engine p.count high (Noting low high) (GivingUp low high) r.m.rows now v.looked (v.met ++ record { from = low; to = high } ∷ []) (GivingUp low high) v.own (r.faults ++ record { client = v.client; met = record { from = low; to = high } } ∷ []) (set s.words 1 count) here turn run words p.tied
+      rule = goes_on r id v (engine_before me) p.ahead p.engine p.count high (Noting low high) (GivingUp low high) r.m.rows now v.looked (v.met ++ record { from = low; to = high } ∷ []) (GivingUp low high) v.own (r.faults ++ record { client = v.client; met = record { from = low; to = high } } ∷ []) (set s.words 1 count) here turn run words p.tied (sym (length-append r.faults (record { client = v.client; met = record { from = low; to = high } } ∷ []) ∙ omega arith))
           (apart_more 0 r.faults r.m.noted v.client low high cause.1 cause.0 r.apart)
+          (clients_more (clients_of r.m) r.faults v.client (record { from = low; to = high }) own.there r.clients)
           (ap (λ (l : List Met). l ++ record { from = low; to = high } ∷ []) (r.views id (v ∷ []) here).1 ∙ sym (met_own v.client r.faults (record { from = low; to = high })))
           (λ d other. met_other v.client d r.faults (record { from = low; to = high }) other) refl (p.stays never v.own turn.holder.own)
 

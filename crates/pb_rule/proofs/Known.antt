@@ -12,7 +12,7 @@ use Rattle.pb_core.specs.WordMoves.{WordMove, storing, announcing, looking, matc
 use Rattle.pb_core.proofs.Histories.{HasShape, shape_after}
 use Rattle.pb_engine.specs.View.{EngineView}
 use Rattle.pb_rule.specs.View.{PassView}
-use Rattle.pb_rule.specs.Rule.{IsTied, HasRun, Keeps}
+use Rattle.pb_rule.specs.Rule.{Fault, IsTied, HasRun, Keeps}
 
 -- Kind and clients
 
@@ -37,7 +37,7 @@ pub known_shape : (m : Memory) → HasShape m.start (known m)
 known_shape m =
     known_shape_by m.engine m.start (shown m) m.ahead (shape_after m.start (m.past ++ m.published))
 
-pub tied_clients : {kind : Kind} {start : EngineView} {m : Memory} {engine : EngineView} → IsTied kind start m engine → engine.standing.clients ≡ clients_of m
+pub tied_clients : {kind : Kind} {start : EngineView} {m : Memory} {engine : EngineView} {faults : List Fault} → IsTied kind start m engine faults → engine.standing.clients ≡ clients_of m
 tied_clients {m = m} tied = ap (λ (t : Standing). t.clients) tied.standing ∙ (known_shape m).clients
 
 module _ {X : Type 0} (seen : X → EngineView) (kind : Kind) (start : EngineView) where

@@ -12,7 +12,7 @@ use Rattle.pb_object.specs.declared.request.Reply.{Reply}
 use Rattle.pb_object.specs.History.{Round, History}
 use Rattle.pb_object.specs.Standing.{Standing, newest_of}
 use Rattle.pb_core.specs.Client.{Looking, Client, is_holding}
-use Rattle.pb_core.specs.Memory.{Owner, Free, NoWork, Filling, GivingUp, Engine, Recorded, Memory, with_at, with_client, clients_of, shown, known, known_by, with_round, side_of}
+use Rattle.pb_core.specs.Memory.{Owner, Free, NoWork, Filling, GivingUp, Engine, Recorded, Memory, with_at, with_client, clients_of, shown, known, known_by, with_round, side_of, Work}
 use Rattle.pb_core.specs.MemoryParts.{held_count}
 use Rattle.pb_core.specs.MemoryRun.{stepped as stepped_move}
 use Rattle.pb_core.specs.WordMoves.{go_to, steps_to, answered, with_answer, with_published, publishing_own, publishing_others, giving_up}
@@ -20,11 +20,12 @@ use Rattle.pb_core.proofs.Basics.{with_at-same, with_at-other}
 use Rattle.pb_core.proofs.Histories.{state_after-push}
 use Rattle.pb_core.proofs.Turns.{work_suits}
 use Rattle.pb_engine.specs.View.{EngineView}
-use Rattle.pb_rule.specs.View.{HasComeBy, Note, Turn, OwnRound, PassView}
+use Rattle.pb_engine.specs.Good.{HasCome}
+use Rattle.pb_rule.specs.View.{Note, Turn, OwnRound, PassView}
 use Rattle.pb_rule.specs.Holding.{IsGivingUp}
 use Rattle.pb_rule.specs.Plays.{Seated, the_view, engine_before, engine_now, slot_seen, lets_go, own_round, published_body, published, publish_step, given_up}
 use Rattle.pb_rule.specs.Ready.{IsReadyFor, same_work}
-use Rattle.pb_rule.specs.Rule.{AreApart, HasWords, IsTied, LiesAt, IsBelow, SuitsEngine, recorded_by, HasFront, IsOwn, AreServed, IsViewOf, HasRun, Keeps}
+use Rattle.pb_rule.specs.Rule.{AreApart, HasWords, IsTied, LiesAt, IsBelow, SuitsEngine, recorded_by, HasFront, IsOwn, AreServed, IsViewOf, HasRun, Keeps, failed_calls, AreOfClients}
 use Rattle.pb_rule.proofs.Holds.{stands_holding}
 use Rattle.pb_rule.proofs.Movers.{own_view, running, is_memory, keeps_rule, others_stay, held_lonely, served_more}
 use Rattle.pb_rule.proofs.Prepared.{HasTurn, has_turn}
@@ -68,13 +69,14 @@ module _ {X : Type 0} (seen : X → EngineView) (kind : Kind) (start : EngineVie
   lets_turn_go : {s : State (Option X) (List PassView)} (r : Rule s) (id : ℕ) (v : PassView) (before : EngineView) (x : X) (new : Memory) (b body : Client) (notes : List Note) (served : List OwnRound) (more : History) (words : List ℕ)
       → get_elem? s.views id ≡ some (v ∷ []) → HasTurn seen kind start r v before → seen x ≡ before
       → HasRun start new → new.owner ≡ Free → new.start ≡ r.m.start → new.published ≡ r.m.published ++ more → new.book ≡ with_at v.client b r.m.book → new.noted ≡ r.m.noted
-      → HasWords new words → IsTied kind start new before → body ≡ b → is_holding body.stage ≡ false → HasFront body.stage body.front → AreServed new.start new.published served
+      → HasWords new words → IsTied kind start new before r.faults → body ≡ b → is_holding body.stage ≡ false → HasFront body.stage body.front → AreServed new.start new.published served
       → Rule (record { words = words; homes = set s.homes 0 (some (Some x)); views = set s.views id (record v { body = body; notes = notes; served = served; work = NoWork; hand = None; own = None } ∷ []) })
   lets_turn_go {s} r id v before x new b body notes served more words at turn seen_is run free start_is published_is book noted has tied same waits front all =
       keeps_rule seen kind start r id v (record v { body = body; notes = notes; served = served; work = NoWork; hand = None; own = None }) new before r.faults words (set s.homes 0 (some (Some x))) at run has tied
       (subst (λ (o : Owner). LiesAt seen o before (set s.homes 0 (some (Some x)))) (sym free) (x, seen_is, ap (λ (h : List (maybe.Option (Option X))). set h 0 (some (Some x))) empty))
       (subst (λ (o : Owner). IsBelow o (clients_of new)) (sym free) tt)
       (subst (λ (n : ℕ). AreApart 0 r.faults n) (sym noted) r.apart)
+      (subst (λ (t : Standing). AreOfClients t.clients r.faults) (sym start_is) r.clients)
       refl
       (record {
         clients = old.clients ∙ ap (λ (t : Standing). t.clients) (sym start_is);
@@ -150,12 +152,12 @@ module _ {X : Type 0} (seen : X → EngineView) (kind : Kind) (start : EngineVie
       standing : (engine_before me).standing ≡ known r.m
       standing = ap (λ (e : EngineView). e.standing) (sym held.same) ∙ r.tied.standing
 
-      tied : IsTied kind start (with_published (some_round r.m.ahead suits.1).0 r.m) (engine_before me)
-      tied = subst (IsTied kind start (with_published round r.m)) held.same (record {
+      tied : IsTied kind start (with_published (some_round r.m.ahead suits.1).0 r.m) (engine_before me) r.faults
+      tied = subst (λ (e : EngineView). IsTied kind start (with_published round r.m) e r.faults) held.same (record {
         standing = r.tied.standing ∙ (known_is ∙ sym (state_after-push r.m.start r.m.past r.m.published round));
         count = r.tied.count;
         suits = subst (λ (e : Engine). SuitsEngine e r.m.ahead r.engine) suits.0 r.tied.suits;
-        come = subst (HasComeBy start r.engine) (λ i. recorded_by (suits.0 i) (ahead_is i) r.m.published) r.tied.come;
+        come = subst (HasCome start r.engine (r.m.published ++ round ∷ [])) (ap (λ (w : Work). failed_calls w r.faults) work) (subst (λ (h : History). HasCome start r.engine h (failed_calls r.m.work r.faults)) (λ i. recorded_by (suits.0 i) (ahead_is i) r.m.published) r.tied.come);
         sound = r.tied.sound;
       })
 
@@ -268,8 +270,8 @@ module _ {X : Type 0} (seen : X → EngineView) (kind : Kind) (start : EngineVie
       run : HasRun start (record (steps_to (the_view me).client Looking r.m) { turn = r.m.turn - 1; owner = Free; work = NoWork })
       run = moved_on r.run (stepped_move v.client _ (record { running = running seen kind start r; there = own.there; move = giving_up (record { side = side_of (r.m.book v.client).ask.op; holds = held.owner; from = giving.from; to = giving.to; at = work; is = refl; says = refl }) }))
 
-      tied : IsTied kind start (record (steps_to (the_view me).client Looking r.m) { turn = r.m.turn - 1; owner = Free; work = NoWork }) (engine_before me)
-      tied = subst (IsTied kind start new) held.same (record { standing = r.tied.standing; count = r.tied.count; suits = r.tied.suits; come = r.tied.come; sound = r.tied.sound })
+      tied : IsTied kind start (record (steps_to (the_view me).client Looking r.m) { turn = r.m.turn - 1; owner = Free; work = NoWork }) (engine_before me) r.faults
+      tied = subst (λ (e : EngineView). IsTied kind start new e r.faults) held.same (record { standing = r.tied.standing; count = r.tied.count; suits = r.tied.suits; come = subst (HasCome start r.engine (recorded_by r.m.engine r.m.ahead r.m.published)) (ap (λ (w : Work). failed_calls w r.faults) work) r.tied.come; sound = r.tied.sound })
 
       rule : Rule (record { words = set s.words 0 turn; homes = set s.homes 0 (some (Some ready.holds.value)); views = set s.views id (given_up (the_view me) ∷ []) })
       rule = lets_turn_go r id v (engine_before me) ready.holds.value new (go_to Looking (r.m.book v.client)) (go_to Looking v.body) v.notes v.served [] (set s.words 0 turn) here held seen_is run refl refl (sym (append-nil r.m.published)) refl refl

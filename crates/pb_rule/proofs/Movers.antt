@@ -18,7 +18,7 @@ use Rattle.pb_core.proofs.Basics.{with_at-same, with_at-other}
 use Rattle.pb_core.proofs.Turns.{held-client, free≢held}
 use Rattle.pb_engine.specs.View.{EngineView}
 use Rattle.pb_rule.specs.View.{Note, OwnRound, PassView}
-use Rattle.pb_rule.specs.Rule.{HasWords, IsTied, LiesAt, IsBelow, HasFront, AreServed, IsViewOf, Fault, AreApart, met_by, AreViews, HasRun, Keeps}
+use Rattle.pb_rule.specs.Rule.{HasWords, IsTied, LiesAt, IsBelow, HasFront, AreServed, IsViewOf, Fault, AreApart, AreOfClients, met_by, AreViews, HasRun, Keeps}
 use Rattle.pb_rule.proofs.Runs.{memory_of}
 use Rattle.pb_rule.proofs.WordLemmas.{words_of}
 
@@ -76,10 +76,10 @@ module _ {X : Type 0} (seen : X → EngineView) (kind : Kind) (start : EngineVie
 
   -- one seat moves: memory, engine and its own view change, and the others see what they saw
   pub keeps_rule : {s : St} (r : Rule s) (id : ℕ) (v w : PassView) (new : Memory) (after : EngineView) (later : List Fault) (words : List ℕ) (homes : List (maybe.Option (Option X)))
-      → get_elem? s.views id ≡ some (v ∷ []) → HasRun start new → HasWords new words → IsTied kind start new after → LiesAt seen new.owner after homes → IsBelow new.owner (clients_of new) → AreApart 0 later new.noted
+      → get_elem? s.views id ≡ some (v ∷ []) → HasRun start new → HasWords new words → IsTied kind start new after later → LiesAt seen new.owner after homes → IsBelow new.owner (clients_of new) → AreApart 0 later new.noted → AreOfClients (clients_of new) later
       → w.client ≡ v.client → IsViewOf new after w → w.met ≡ met_by w.client later → ((u : PassView) → u.client ≢ v.client → IsViewOf r.m r.engine u → IsViewOf new after u)
       → ((d : ℕ) → d ≢ v.client → met_by d later ≡ met_by d r.faults) → Rule (record { words = words; homes = homes; views = set s.views id (w ∷ []) })
-  keeps_rule {s} r id v w new after later words homes at run has tied lies below apart same own met stays others_met = record {
+  keeps_rule {s} r id v w new after later words homes at run has tied lies below apart theirs same own met stays others_met = record {
     m = new;
     engine = after;
     faults = later;
@@ -91,6 +91,7 @@ module _ {X : Type 0} (seen : X → EngineView) (kind : Kind) (start : EngineVie
     lies = lies;
     below = below;
     apart = apart;
+    clients = theirs;
     views = λ seat list there. go seat list (at_set s.views id seat (w ∷ []) list there);
   }
     where
@@ -161,7 +162,7 @@ module _ {X : Type 0} (seen : X → EngineView) (kind : Kind) (start : EngineVie
       keeps_rule r id v w new r.engine r.faults words s.homes at run
       (words_of new words has refl refl has.turn has.noted has.requests has.rows)
       (record { standing = r.tied.standing; count = r.tied.count; suits = r.tied.suits; come = r.tied.come; sound = r.tied.sound })
-      r.lies r.below r.apart refl own_is (r.views id (v ∷ []) at).1 (waiting_view v.client b requests answers) (λ d other. refl)
+      r.lies r.below r.apart r.clients refl own_is (r.views id (v ∷ []) at).1 (waiting_view v.client b requests answers) (λ d other. refl)
     where
       new : Memory
       new = record (with_client v.client b r.m) { requests = requests; answers = answers }

@@ -128,10 +128,11 @@ module _ {X : Type 0} (seen : X → EngineView) (kind : Kind) where
     run = record { moves = 0; run = refl };
     kept = sound.kept.count;
     words = start_words start.standing start.device.faults words has;
-    tied = record { standing = refl; count = refl; suits = sure; come = (0, at_start start); sound = sound };
+    tied = record { standing = refl; count = refl; suits = sure; come = at_start start; sound = sound };
     lies = (x, refl, ap (λ (l : List (Option X)). map some l) slots_are);
     below = tt;
     apart = omega arith;
+    clients = tt;
     views = λ seat list at. go seat list at;
   }
     where

@@ -1,5 +1,5 @@
 -- The calls of the device that a holder made since its last step, as moves of the core.
-use Rattle.std.proofs.Common.{◌+◌, ◌≡◌, ◌≢◌, ℕ, suc, ◌<◌, Bool, true, false, List, [], ◌∷◌, ◌++◌, length, Option, Some, None, sym, refl, ap, ◌∙◌, subst}
+use Rattle.std.proofs.Common.{arith, ◌+◌, ◌≡◌, ◌≢◌, ℕ, suc, ◌<◌, Bool, true, false, List, [], ◌∷◌, ◌++◌, length, Option, Some, None, sym, refl, ap, ◌∙◌, subst}
 use Rattle.std.proofs.lemmas.Bool.{false≢true}
 use lib.ListN.{get_elem?}
 use mathlib.Core.Option.{some}
@@ -19,13 +19,14 @@ use Rattle.pb_core.proofs.Holding.{begins_legal}
 use Rattle.pb_core.proofs.Scans.{the_scan, known_shown, meets_some}
 use Rattle.pb_core.proofs.Turns.{work_suits}
 use Rattle.pb_engine.specs.Asks.{asked_round}
-use Rattle.pb_engine.specs.Good.{settled_rounds, with_doubt}
+use Rattle.pb_engine.specs.Calls.{settled_rounds, with_doubt}
+use Rattle.pb_engine.specs.Good.{HasCome}
 use Rattle.pb_engine.specs.View.{EngineView, FailedRound, IsEngine, was_called, settled_by, settled_standing}
 use Rattle.pb_engine.proofs.Coming.{after_round_made, after_round_failed, after_settled, after_settling_failed}
-use Rattle.pb_rule.specs.View.{HasComeBy, OwnRound, PassView, numbers_of}
+use Rattle.pb_rule.specs.View.{OwnRound, PassView, numbers_of}
 use Rattle.pb_rule.specs.Plays.{own_by}
 use Rattle.pb_rule.specs.Ready.{Settled, FailedSettling, MadeRound, FailedRound as FailedMaking, Ready, untouched, settled_none, settled_round, recorded, failed_settling, failed_round}
-use Rattle.pb_rule.specs.Rule.{called_if, called_round, SuitsEngine, recorded_by, IsTied, IsAhead, IsOwn, IsHolder, HasNothing, IsViewOf, HasRun, Keeps}
+use Rattle.pb_rule.specs.Rule.{called_if, called_round, SuitsEngine, recorded_by, IsTied, IsAhead, IsOwn, IsHolder, HasNothing, IsViewOf, HasRun, Keeps, Fault, failed_calls}
 use Rattle.pb_rule.proofs.Known.{started}
 use Rattle.pb_rule.proofs.Movers.{own_view, is_memory}
 use Rattle.pb_rule.proofs.Rounds.{round_same}
@@ -36,12 +37,12 @@ abbrev pub called_to : Memory → Option Round → Engine → ℕ → Work → M
 called_to m ahead engine count work = record m { ahead = ahead; engine = engine; count = count; work = work }
 
 -- the calls were made: memory is at this work, and the engine suits it
-pub record IsPrepared (kind : Kind) (start : EngineView) (m : Memory) (before now : EngineView) (work : Work) : Type 0 where
+pub record IsPrepared (kind : Kind) (start : EngineView) (m : Memory) (faults : List Fault) (before now : EngineView) (work : Work) : Type 0 where
   pub ahead : Option Round
   pub engine : Engine
   pub count : ℕ
   pub run : HasRun start (called_to m ahead engine count work)
-  pub tied : IsTied kind start (called_to m ahead engine count work) now
+  pub tied : IsTied kind start (called_to m ahead engine count work) now faults
   -- the round that is filled from a scan is the one ahead, and else a round of one's own stays as it is
   pub fills : (stored : ℕ) → work ≡ Filling stored → (own : Option OwnRound) → IsOwn m.start m.published m.ahead own → IsOwn m.start m.published ahead (own_by before (length m.published) m.work own)
   pub stays : ((stored : ℕ) → work ≢ Filling stored) → (own : Option OwnRound) → IsOwn m.start m.published m.ahead own → IsOwn m.start m.published ahead own
@@ -143,6 +144,9 @@ module _ {X : Type 0} (seen : X → EngineView) (kind : Kind) (start : EngineVie
     noting_filling : (from to stored : ℕ) → Noting from to ≡ Filling stored → ⊥
     noting_filling from to stored e = cc
 
+    one_more_call : {now : EngineView} {rounds : History} → HasCome start now rounds (length r.faults + 1) → HasCome start now rounds (suc (length r.faults))
+    one_more_call {now} {rounds} come = subst (HasCome start now rounds) (omega arith) come
+
     -- one call is one move
     one_call : (new : Memory) → HolderMove r.m c new → HasRun start new
     one_call new move = moved_on r.run (called c there move)
@@ -159,23 +163,24 @@ module _ {X : Type 0} (seen : X → EngineView) (kind : Kind) (start : EngineVie
     settling_known at =
         r.tied.standing ∙ ap (λ (e : Engine). known_by e r.m.ahead (shown r.m)) (doubtful at)
 
-    settling_come : r.m.work ≡ Settling → HasComeBy start r.engine r.m.published
+    settling_come : r.m.work ≡ Settling → HasCome start r.engine r.m.published (length r.faults)
     settling_come at =
-        subst (λ (e : Engine). HasComeBy start r.engine (recorded_by e r.m.ahead r.m.published)) (doubtful at) r.tied.come
+        subst (λ (e : Engine). HasCome start r.engine (recorded_by e r.m.ahead r.m.published) (length r.faults)) (doubtful at)
+        (subst (λ (w : Work). HasCome start r.engine (recorded_by r.m.engine r.m.ahead r.m.published) (failed_calls w r.faults)) at r.tied.come)
 
-    prepare_untouched : (now : EngineView) (work : Work) → work ≡ r.m.work → now ≡ r.engine → IsPrepared kind start r.m r.engine now work
-    prepare_untouched now work work_is now_is = subst (λ (w : Work). IsPrepared kind start r.m r.engine now w) (sym work_is) (record {
+    prepare_untouched : (now : EngineView) (work : Work) → work ≡ r.m.work → now ≡ r.engine → IsPrepared kind start r.m r.faults r.engine now work
+    prepare_untouched now work work_is now_is = subst (λ (w : Work). IsPrepared kind start r.m r.faults r.engine now w) (sym work_is) (record {
       ahead = r.m.ahead;
       engine = r.m.engine;
       count = r.m.count;
       run = r.run;
-      tied = subst (IsTied kind start r.m) (sym now_is) r.tied;
+      tied = subst (λ (e : EngineView). IsTied kind start r.m e r.faults) (sym now_is) r.tied;
       fills = λ stored fills own is. own_at r.m.work (Filling stored) r.engine (length r.m.published) own r.m.start r.m.published r.m.ahead fills is;
       stays = λ never own is. is;
     })
 
-    prepare_none : (now : EngineView) (work : Work) → IsEngine kind now → r.m.work ≡ Settling → was_called r.engine.doubt ≡ false → Settled r.engine now → work ≡ Scanning 0 AtNumber [] → IsPrepared kind start r.m r.engine now work
-    prepare_none now work sound at uncalled settled work_is = subst (λ (w : Work). IsPrepared kind start r.m r.engine now w) (sym work_is) (record {
+    prepare_none : (now : EngineView) (work : Work) → IsEngine kind now → r.m.work ≡ Settling → was_called r.engine.doubt ≡ false → Settled r.engine now → work ≡ Scanning 0 AtNumber [] → IsPrepared kind start r.m r.faults r.engine now work
+    prepare_none now work sound at uncalled settled work_is = subst (λ (w : Work). IsPrepared kind start r.m r.faults r.engine now w) (sym work_is) (record {
       ahead = r.m.ahead;
       engine = Resting;
       count = r.m.count;
@@ -184,15 +189,15 @@ module _ {X : Type 0} (seen : X → EngineView) (kind : Kind) (start : EngineVie
         standing = settled.settled.standing ∙ (uncalled_standing r.engine.standing r.engine.doubt uncalled ∙ settling_known at);
         count = settled.settled.device.faults ∙ r.tied.count;
         suits = settled.settled.sure;
-        come = subst (HasComeBy start now) (uncalled_rounds r.m.published r.engine.doubt uncalled) ((settling_come at).0, after_settled start r.engine now r.m.published (settling_come at).0 (settling_come at).1 r.tied.sound.legal (settling_suits at).0 settled.settled settled.covers);
+        come = subst (λ (h : History). HasCome start now h (length r.faults)) (uncalled_rounds r.m.published r.engine.doubt uncalled) (after_settled start r.engine now r.m.published (length r.faults) (settling_come at) r.tied.sound.legal (settling_suits at).0 settled.settled settled.covers);
         sound = sound;
       };
       fills = λ stored fills. absurd (scanning_filling stored fills);
       stays = λ never own is. is;
     })
 
-    prepare_round : (now : EngineView) (work : Work) → IsEngine kind now → r.m.work ≡ Settling → was_called r.engine.doubt ≡ true → Settled r.engine now → work ≡ Filling 0 → IsPrepared kind start r.m r.engine now work
-    prepare_round now work sound at was settled work_is = subst (λ (w : Work). IsPrepared kind start r.m r.engine now w) (sym work_is) (record {
+    prepare_round : (now : EngineView) (work : Work) → IsEngine kind now → r.m.work ≡ Settling → was_called r.engine.doubt ≡ true → Settled r.engine now → work ≡ Filling 0 → IsPrepared kind start r.m r.faults r.engine now work
+    prepare_round now work sound at was settled work_is = subst (λ (w : Work). IsPrepared kind start r.m r.faults r.engine now w) (sym work_is) (record {
       ahead = r.m.ahead;
       engine = Recorded;
       count = r.m.count;
@@ -201,7 +206,7 @@ module _ {X : Type 0} (seen : X → EngineView) (kind : Kind) (start : EngineVie
         standing = settled.settled.standing ∙ (doubt.standing ∙ (λ i. with_round (sym ahead_is i) (settling_known at i)));
         count = settled.settled.device.faults ∙ r.tied.count;
         suits = settled.settled.sure;
-        come = subst (HasComeBy start now) (doubt.rounds_are ∙ ap (λ (a : Option Round). r.m.published ++ coming a) (sym ahead_is)) ((settling_come at).0, after_settled start r.engine now r.m.published (settling_come at).0 (settling_come at).1 r.tied.sound.legal (settling_suits at).0 settled.settled settled.covers);
+        come = subst (λ (h : History). HasCome start now h (length r.faults)) (doubt.rounds_are ∙ ap (λ (a : Option Round). r.m.published ++ coming a) (sym ahead_is)) (after_settled start r.engine now r.m.published (length r.faults) (settling_come at) r.tied.sound.legal (settling_suits at).0 settled.settled settled.covers);
         sound = sound;
       };
       fills = λ stored fills own is. own_at r.m.work Settling r.engine (length r.m.published) own r.m.start r.m.published r.m.ahead at tt;
@@ -214,8 +219,8 @@ module _ {X : Type 0} (seen : X → EngineView) (kind : Kind) (start : EngineVie
         ahead_is : r.m.ahead ≡ Some doubt.round
         ahead_is = sym (settling_suits at).1 ∙ doubt.is
 
-    prepare_failed_settling : (fault : DeviceFault) (now : EngineView) (work : Work) → IsEngine kind now → r.m.work ≡ Settling → FailedSettling fault r.engine now → work ≡ Noting r.engine.device.faults now.device.faults → IsPrepared kind start r.m r.engine now work
-    prepare_failed_settling fault now work sound at failed work_is = subst (λ (w : Work). IsPrepared kind start r.m r.engine now w) (sym (work_is ∙ ap (λ (n : ℕ). Noting n now.device.faults) r.tied.count)) (record {
+    prepare_failed_settling : (fault : DeviceFault) (now : EngineView) (work : Work) → IsEngine kind now → r.m.work ≡ Settling → FailedSettling fault r.engine now → work ≡ Noting r.engine.device.faults now.device.faults → IsPrepared kind start r.m r.faults r.engine now work
+    prepare_failed_settling fault now work sound at failed work_is = subst (λ (w : Work). IsPrepared kind start r.m r.faults r.engine now w) (sym (work_is ∙ ap (λ (n : ℕ). Noting n now.device.faults) r.tied.count)) (record {
       ahead = r.m.ahead;
       engine = r.m.engine;
       count = now.device.faults;
@@ -224,7 +229,7 @@ module _ {X : Type 0} (seen : X → EngineView) (kind : Kind) (start : EngineVie
         standing = failed.failed.standing ∙ r.tied.standing;
         count = refl;
         suits = subst (λ (e : Engine). SuitsEngine e r.m.ahead now) (sym (doubtful at)) (failed.failed.unsure.sure, ap called_round failed.failed.doubt ∙ (settling_suits at).1);
-        come = subst (λ (e : Engine). HasComeBy start now (recorded_by e r.m.ahead r.m.published)) (sym (doubtful at)) ((settling_come at).0 + 1, after_settling_failed start r.engine now r.m.published (settling_come at).0 fault (settling_come at).1 (settling_suits at).0 failed.failed failed.covers);
+        come = subst (λ (e : Engine). HasCome start now (recorded_by e r.m.ahead r.m.published) (suc (length r.faults))) (sym (doubtful at)) (one_more_call (after_settling_failed start r.engine now r.m.published (length r.faults) fault (settling_come at) (settling_suits at).0 failed.failed failed.covers));
         sound = sound;
       };
       fills = λ stored fills. absurd (noting_filling r.m.count now.device.faults stored fills);
@@ -249,9 +254,10 @@ module _ {X : Type 0} (seen : X → EngineView) (kind : Kind) (start : EngineVie
       scan_known : r.engine.standing ≡ shown r.m
       scan_known = r.tied.standing ∙ known_shown (clients_of r.m) AtNumber asks is held at
 
-      scan_come : HasComeBy start r.engine r.m.published
+      scan_come : HasCome start r.engine r.m.published (length r.faults)
       scan_come =
-          subst (λ (e : Engine). HasComeBy start r.engine (recorded_by e r.m.ahead r.m.published)) resting.0 r.tied.come
+          subst (λ (e : Engine). HasCome start r.engine (recorded_by e r.m.ahead r.m.published) (length r.faults)) resting.0
+          (subst (λ (w : Work). HasCome start r.engine (recorded_by r.m.engine r.m.ahead r.m.published) (failed_calls w r.faults)) at r.tied.come)
 
       abbrev begun_to : Memory
       begun_to = record r.m { ahead = Some (round_by side (known r.m) asks); work = Calling; engine = Writing }
@@ -279,8 +285,8 @@ module _ {X : Type 0} (seen : X → EngineView) (kind : Kind) (start : EngineVie
         kept = ap numbers_of (scan_known ∙ ap (λ (past : History). state_after r.m.start (past ++ r.m.published)) (started r.run).1);
       }
 
-      prepare_recorded : (now : EngineView) (work : Work) → IsEngine kind now → MadeRound asks r.engine now → work ≡ Filling 0 → IsPrepared kind start r.m r.engine now work
-      prepare_recorded now work sound made work_is = subst (λ (w : Work). IsPrepared kind start r.m r.engine now w) (sym work_is) (record {
+      prepare_recorded : (now : EngineView) (work : Work) → IsEngine kind now → MadeRound asks r.engine now → work ≡ Filling 0 → IsPrepared kind start r.m r.faults r.engine now work
+      prepare_recorded now work sound made work_is = subst (λ (w : Work). IsPrepared kind start r.m r.faults r.engine now w) (sym work_is) (record {
         ahead = Some (round_by side (known r.m) asks);
         engine = Recorded;
         count = r.m.count;
@@ -289,27 +295,27 @@ module _ {X : Type 0} (seen : X → EngineView) (kind : Kind) (start : EngineVie
           standing = made.made.standing ∙ (λ i. after_round (scan_known i) (round_is i));
           count = made.made.device.faults ∙ r.tied.count;
           suits = made.made.sure;
-          come = subst (λ (round : Round). HasComeBy start now (r.m.published ++ round ∷ [])) round_is (scan_come.0, after_round_made start r.engine now r.m.published scan_come.0 (asked_round r.engine.standing asks) scan_come.1 legal sure decided made.made made.covers);
+          come = subst (λ (round : Round). HasCome start now (r.m.published ++ round ∷ []) (length r.faults)) round_is (after_round_made start r.engine now r.m.published (length r.faults) (asked_round r.engine.standing asks) scan_come legal sure decided made.made made.covers);
           sound = sound;
         };
         fills = λ stored fills own is. own_at r.m.work (Scanning (clients_of r.m) AtNumber asks) r.engine (length r.m.published) own r.m.start r.m.published (Some (round_by side (known r.m) asks)) at own_ahead;
         stays = λ never. absurd (never 0 refl);
       })
 
-      prepare_failed : (fault : DeviceFault) (now : EngineView) (work : Work) → IsEngine kind now → FailedMaking asks fault r.engine now → work ≡ Noting r.engine.device.faults now.device.faults → IsPrepared kind start r.m r.engine now work
+      prepare_failed : (fault : DeviceFault) (now : EngineView) (work : Work) → IsEngine kind now → FailedMaking asks fault r.engine now → work ≡ Noting r.engine.device.faults now.device.faults → IsPrepared kind start r.m r.faults r.engine now work
       prepare_failed fault now work sound failed work_is =
-          subst (λ (w : Work). IsPrepared kind start r.m r.engine now w) (sym (work_is ∙ ap (λ (n : ℕ). Noting n now.device.faults) r.tied.count)) (go failed.failed.called refl)
+          subst (λ (w : Work). IsPrepared kind start r.m r.faults r.engine now w) (sym (work_is ∙ ap (λ (n : ℕ). Noting n now.device.faults) r.tied.count)) (go failed.failed.called refl)
         where
           rose : Rose r.m.count now.device.faults
           rose = subst (λ (n : ℕ). Rose n now.device.faults) r.tied.count failed.failed.device.stops.rose
 
-          come : HasComeBy start now r.m.published
-          come = (scan_come.0 + 1, after_round_failed start r.engine now r.m.published scan_come.0 (asked_round r.engine.standing asks) fault scan_come.1 sure decided failed.failed failed.covers)
+          come : HasCome start now r.m.published (suc (length r.faults))
+          come = one_more_call (after_round_failed start r.engine now r.m.published (length r.faults) (asked_round r.engine.standing asks) fault scan_come sure decided failed.failed failed.covers)
 
           doubt_is : (b : Bool) → failed.failed.called ≡ b → called_round now.doubt ≡ called_if b (asked_round r.engine.standing asks)
           doubt_is b e = ap called_round failed.failed.doubt ∙ ap (λ (x : Bool). called_if x (asked_round r.engine.standing asks)) e
 
-          go : (b : Bool) → failed.failed.called ≡ b → IsPrepared kind start r.m r.engine now (Noting r.m.count now.device.faults)
+          go : (b : Bool) → failed.failed.called ≡ b → IsPrepared kind start r.m r.faults r.engine now (Noting r.m.count now.device.faults)
           go false e = record {
             ahead = None;
             engine = Doubtful;
@@ -342,7 +348,7 @@ module _ {X : Type 0} (seen : X → EngineView) (kind : Kind) (start : EngineVie
           }
 
     -- whatever it called, memory is prepared
-    pub prepares : (clients : ℕ) (now : EngineView) (work : Work) → IsEngine kind now → clients ≡ clients_of r.m → Ready clients r.m.work r.engine now work → IsPrepared kind start r.m r.engine now work
+    pub prepares : (clients : ℕ) (now : EngineView) (work : Work) → IsEngine kind now → clients ≡ clients_of r.m → Ready clients r.m.work r.engine now work → IsPrepared kind start r.m r.faults r.engine now work
     prepares clients now work sound same (untouched work_is now_is) =
         prepare_untouched now work work_is now_is
     prepares clients now work sound same (settled_none at uncalled settled work_is) =

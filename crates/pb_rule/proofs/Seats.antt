@@ -74,6 +74,7 @@ module _ {X : Type 0} (seen : X → EngineView) (kind : Kind) (start : EngineVie
     lies = r.lies;
     below = r.below;
     apart = r.apart;
+    clients = r.clients;
     views = are;
   }
 

@@ -14,16 +14,17 @@ use Rattle.pb_layout.specs.declared.header.TheConstants.{MOST_CLIENTS}
 use Rattle.pb_layout_laws.proofs.FewRounds.{legal_few}
 use Rattle.pb_core.specs.declared.event.Stepped.TheVariants.{Went}
 use Rattle.pb_core.specs.Client.{Looking, Taking, Holding, is_holding}
-use Rattle.pb_core.specs.Memory.{Owner, Free, Held, AtNumber, Work, Settling, Scanning, Engine, Resting, Doubtful, Memory, clients_of, side_of, round_of_turn}
+use Rattle.pb_core.specs.Memory.{Owner, Free, Held, AtNumber, Work, Settling, Scanning, Engine, Resting, Doubtful, Memory, clients_of, side_of, round_of_turn, NoWork}
 use Rattle.pb_core.specs.MemoryParts.{IsMemory}
 use Rattle.pb_core.specs.WordMoves.{go_to, sees, steps_to, WordMove, taking_sure, taking_unsure, missing}
 use Rattle.pb_core.proofs.Basics.{with_at-same, with_at-other}
 use Rattle.pb_core.proofs.Turns.{free_suits, taken_free}
 use Rattle.pb_core.proofs.Waiting.{held-small, turn_rounds}
 use Rattle.pb_engine.specs.View.{EngineView, IsEngine}
+use Rattle.pb_engine.specs.Good.{HasCome}
 use Rattle.pb_rule.specs.View.{Turn, PassView}
 use Rattle.pb_rule.specs.Plays.{Seated, the_view, IsPlain, IsNoEarlier, last_look, first_turn, first_work, taken, HasTakenOrMissed}
-use Rattle.pb_rule.specs.Rule.{called_round, HasWords, LiesAt, SuitsEngine, IsViewOf, Keeps}
+use Rattle.pb_rule.specs.Rule.{called_round, HasWords, LiesAt, SuitsEngine, IsViewOf, Keeps, failed_calls, recorded_by, Fault}
 use Rattle.pb_rule.proofs.Known.{engine_clients}
 use Rattle.pb_rule.proofs.Movers.{own_view, running, is_memory, keeps_rule, client_moves, others_stay, free_lonely}
 use Rattle.pb_rule.proofs.Waits.{stands, no_earlier, step_of, same_words, stage_of, front_at}
@@ -46,6 +47,10 @@ module _ {X : Type 0} (seen : X → EngineView) (kind : Kind) (start : EngineVie
   first_is : (sure known : Bool) → sure ≡ known → first_work sure ≡ first_work known
   first_is sure known is = ap first_work is
 
+  first_calls : (sure : Bool) (faults : List Fault) → failed_calls (first_work sure) faults ≡ length faults
+  first_calls true faults = refl
+  first_calls false faults = refl
+
   -- the turn was as it was found
   takes_hit : {s : State (Option X) (List PassView)} (r : Rule s) (id : ℕ) (v : PassView) (turn found : ℕ) (x : X) (work : Work) → get_elem? s.views id ≡ some (v ∷ []) → v.body.stage ≡ Taking turn found
       → r.m.turn ≡ turn → r.m.owner ≡ Free → seen x ≡ r.engine → s.homes ≡ some (Some x) ∷ [] → first_work (seen x).sure ≡ work
@@ -55,8 +60,8 @@ module _ {X : Type 0} (seen : X → EngineView) (kind : Kind) (start : EngineVie
       keeps_rule seen kind start r id v (taken turn (seen x) v) new r.engine r.faults (set s.words 0 (turn + 1)) (set s.homes 0 maybe.none) at
       (step_of seen kind start r v.client new Went own.there move)
       (words_of new (set s.words 0 (turn + 1)) (turn_stored (turn + 1) r.words) refl refl turned.turn turned.noted turned.requests turned.rows)
-      (record { standing = r.tied.standing; count = r.tied.count; suits = r.tied.suits; come = r.tied.come; sound = r.tied.sound })
-      (ap (λ (h : List (maybe.Option (Option X))). set h 0 maybe.none) homes) own.there r.apart refl
+      (record { standing = r.tied.standing; count = r.tied.count; suits = r.tied.suits; come = subst (HasCome start r.engine (recorded_by r.m.engine r.m.ahead r.m.published)) (ap (λ (w : Work). failed_calls w r.faults) idle ∙ (sym (first_calls (seen x).sure r.faults) ∙ ap (λ (w : Work). failed_calls w r.faults) work_is)) r.tied.come; sound = r.tied.sound })
+      (ap (λ (h : List (maybe.Option (Option X))). set h 0 maybe.none) homes) own.there r.apart r.clients refl
       (record {
         clients = own.clients;
         there = own.there;
@@ -80,6 +85,9 @@ module _ {X : Type 0} (seen : X → EngineView) (kind : Kind) (start : EngineVie
 
       own : IsViewOf r.m r.engine v
       own = own_view seen kind start r id v at
+
+      idle : r.m.work ≡ NoWork
+      idle = (free_suits (is_memory seen kind start r) free).0
 
       turned : HasWords (record r.m { turn = turn + 1 }) (set s.words 0 (turn + 1))
       turned = turn_stored (turn + 1) r.words

@@ -5,9 +5,10 @@ use Rattle.pb_object.specs.History.{Round, History, state_after, IsLegal, IsLega
 use Rattle.pb_object.specs.Standing.{Standing, kept_list_of, newest_of}
 use Rattle.pb_core.specs.Client.{row_word, is_holding}
 use Rattle.pb_core.specs.MemoryParts.{HasEntries, AreDated}
+use Rattle.pb_engine.specs.Good.{HasCome}
 use Rattle.pb_engine.specs.View.{EngineView, IsEngine}
-use Rattle.pb_rule.specs.Rule.{request_place, row_place, word_count, called_round, AreServed, Fault, AreApart, met_by}
-use Rattle.pb_rule.specs.View.{HasComeBy, PassView}
+use Rattle.pb_rule.specs.Rule.{request_place, row_place, word_count, called_round, AreServed, Fault, AreApart, AreOfClients, met_by}
+use Rattle.pb_rule.specs.View.{PassView}
 
 abbrev pub first_of : List PassView → List PassView
 first_of [] = []
@@ -49,15 +50,16 @@ AreEnded start published ahead faults [] = Unit {0}
 AreEnded start published ahead faults (v ∷ views) = IsEnded start published ahead faults v × AreEnded start published ahead faults views
 
 -- What all came to: rounds that are legal and published, and perhaps one in doubt, which is legal after them; the engine came by the published
--- ones from where it was shared; the faults that were answered lie apart
+-- ones from where it was shared, and each call of it that failed was answered as a fault to one of the clients; these lie apart
 pub record HasEnded (kind : Kind) (start engine : EngineView) (views : List PassView) : Type 0 where
   pub published : History
   pub ahead : Option Round
   pub legal : IsLegal start.standing published
   pub next : IfSome ahead (IsLegalRound (state_after start.standing published))
-  pub come : HasComeBy start engine published
   pub doubt : ((engine.sure ≡ true) × (ahead ≡ None)) ⊎ ((engine.sure ≡ false) × (called_round engine.doubt ≡ ahead))
   pub sound : IsEngine kind engine
   pub faults : List Fault
+  pub come : HasCome start engine published (length faults)
   pub apart : AreApart 0 faults engine.device.faults
+  pub clients : AreOfClients start.standing.clients faults
   pub passes : AreEnded start.standing published ahead faults views

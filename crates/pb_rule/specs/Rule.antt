@@ -9,10 +9,11 @@ use Rattle.pb_object.specs.declared.kind.Kind.{Kind}
 use Rattle.pb_object.specs.History.{Round, History, state_after}
 use Rattle.pb_object.specs.Standing.{Standing}
 use Rattle.pb_core.specs.Client.{Stage, Idle, Storing, Looking, LoadsNumber, LoadsCode, LoadsValue, LoadsExtra, Confirming, Lacking, Taking, Holding, is_holding}
-use Rattle.pb_core.specs.Memory.{Owner, Free, Held, Closed, NoWork, Engine, Resting, Recorded, Writing, Doubtful, Memory, clients_of, known, coming, round_of_turn}
+use Rattle.pb_core.specs.Memory.{Owner, Free, Held, Closed, Work, NoWork, Settling, Scanning, Calling, Filling, Noting, GivingUp, Engine, Resting, Recorded, Writing, Doubtful, Memory, clients_of, known, coming, round_of_turn}
 use Rattle.pb_core.specs.MemoryRun.{begun, MemoryRun}
+use Rattle.pb_engine.specs.Good.{HasCome}
 use Rattle.pb_engine.specs.View.{EngineView, FailedRound, IsEngine}
-use Rattle.pb_rule.specs.View.{HasComeBy, Met, OwnRound, PassView, numbers_of}
+use Rattle.pb_rule.specs.View.{Met, OwnRound, PassView, numbers_of}
 
 -- Words
 
@@ -32,6 +33,31 @@ pub record HasWords (m : Memory) (words : List ℕ) : Type 0 where
   pub noted : slice_index words 1 ≡ m.noted
   pub requests : (client place : ℕ) → client < clients_of m → place < 5 → slice_index words (request_place client place) ≡ m.requests client place
   pub rows : (row client place : ℕ) → row < 2 → client < clients_of m → place < 4 → slice_index words (row_place client row place) ≡ m.rows row client place
+
+-- Faults
+
+-- The faults that were answered, in order: each to one of the clients, and their intervals lie apart
+pub record Fault : Type 0 where
+  pub client : ℕ
+  pub met : Met
+
+abbrev pub AreApart : (low : ℕ) → List Fault → (high : ℕ) → Type 0
+AreApart low [] high = low ≤ high
+AreApart low (fault ∷ faults) high = (low ≤ fault.met.from) × Rose fault.met.from fault.met.to × AreApart fault.met.to faults high
+
+abbrev pub AreOfClients : ℕ → List Fault → Type 0
+AreOfClients clients [] = Unit {0}
+AreOfClients clients (fault ∷ faults) = (fault.client < clients) × AreOfClients clients faults
+
+-- how many calls of the engine failed: one for each fault that was answered, and one that isn't noted yet
+abbrev pub failed_calls : Work → List Fault → ℕ
+failed_calls NoWork faults = length faults
+failed_calls Settling faults = length faults
+failed_calls (Scanning client part seen) faults = length faults
+failed_calls Calling faults = length faults
+failed_calls (Filling count) faults = length faults
+failed_calls (Noting from to) faults = suc (length faults)
+failed_calls (GivingUp from to) faults = length faults
 
 -- The engine
 
@@ -58,11 +84,11 @@ recorded_by Recorded ahead published = published ++ coming ahead
 recorded_by Writing ahead published = published
 recorded_by Doubtful ahead published = published
 
-pub record IsTied (kind : Kind) (start : EngineView) (m : Memory) (engine : EngineView) : Type 0 where
+pub record IsTied (kind : Kind) (start : EngineView) (m : Memory) (engine : EngineView) (faults : List Fault) : Type 0 where
   pub standing : engine.standing ≡ known m
   pub count : engine.device.faults ≡ m.count
   pub suits : SuitsEngine m.engine m.ahead engine
-  pub come : HasComeBy start engine (recorded_by m.engine m.ahead m.published)
+  pub come : HasCome start engine (recorded_by m.engine m.ahead m.published) (failed_calls m.work faults)
   pub sound : IsEngine kind engine
 
 -- it lies in the slot while nobody holds the turn, and is with the holder else
@@ -141,16 +167,7 @@ pub record IsViewOf (m : Memory) (engine : EngineView) (v : PassView) : Type 0 w
   pub other : is_holding v.body.stage ≡ false → HasNothing v
   pub served : AreServed m.start m.published v.served
 
--- The faults that were answered, in order: their intervals lie apart
-pub record Fault : Type 0 where
-  pub client : ℕ
-  pub met : Met
-
-abbrev pub AreApart : (low : ℕ) → List Fault → (high : ℕ) → Type 0
-AreApart low [] high = low ≤ high
-AreApart low (fault ∷ faults) high = (low ≤ fault.met.from) × Rose fault.met.from fault.met.to × AreApart fault.met.to faults high
-
--- those of one client
+-- the faults that one client was answered
 abbrev pub met_if : Bool → Met → List Met → List Met
 met_if true met more = met ∷ more
 met_if false met more = more
@@ -184,8 +201,9 @@ pub record Keeps {X : Type 0} (seen : X → EngineView) (kind : Kind) (start : E
   pub run : HasRun start m
   pub kept : length start.standing.kept ≡ start.standing.clients
   pub words : HasWords m s.words
-  pub tied : IsTied kind start m engine
+  pub tied : IsTied kind start m engine faults
   pub lies : LiesAt seen m.owner engine s.homes
   pub below : IsBelow m.owner (clients_of m)
   pub apart : AreApart 0 faults m.noted
+  pub clients : AreOfClients (clients_of m) faults
   pub views : (seat : ℕ) (list : List PassView) → get_elem? s.views seat ≡ some list → AreViews m engine faults place seat list

@@ -2,11 +2,10 @@
 use Rattle.std.specs.Prelude.{ℕ, suc, List, [], ◌∷◌, map, Option, None}
 use Rattle.pb_object.specs.declared.request.Op.{Op}
 use Rattle.pb_object.specs.declared.request.Kept.{Kept}
-use Rattle.pb_object.specs.History.{Entry, History}
+use Rattle.pb_object.specs.History.{Entry}
 use Rattle.pb_object.specs.Standing.{Standing, newest}
 use Rattle.pb_core.specs.Client.{Client, fresh_client}
 use Rattle.pb_core.specs.Memory.{Work, NoWork}
-use Rattle.pb_engine.specs.Good.{HasCome}
 use Rattle.pb_engine.specs.View.{EngineView}
 
 -- A client whose request's number a holder loaded, and the operation, where it loaded that too
@@ -76,7 +75,3 @@ newest_number kept = (newest kept).number
 
 abbrev pub numbers_of : Standing → List ℕ
 numbers_of s = map newest_number s.kept
-
--- an engine has come to what it is by these rounds, however often its device failed meanwhile
-abbrev pub HasComeBy : EngineView → EngineView → History → Type 0
-HasComeBy start now rounds = (failures : ℕ) × HasCome start now rounds failures

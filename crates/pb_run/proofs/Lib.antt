@@ -1,9 +1,7 @@
-pub mod Asking
-pub mod Finding
-pub mod Lines
-pub mod Recorded
-pub mod Serving
-pub mod Settling
+pub mod Ended
+pub mod Hired
+pub mod Judging
+pub mod LineLemmas
 pub mod Stepping
-pub mod Steps
-pub mod Whole
+pub mod Sums
+pub mod Together

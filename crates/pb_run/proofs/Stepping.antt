@@ -1,178 +1,279 @@
--- One more line keeps what holds while a script is run.
-use Rattle.std.proofs.Common.{◌≡◌, ◌≢◌, ◌⊎◌, ℕ, ◌+◌, ◌<◌, ◌≤◌, Bool, true, false, List, [], ◌∷◌, ◌++◌, length, Some, sym, ap, subst, ◌∙◌, inl, inr, length-append, arith}
-use Rattle.std.specs.List.{zip, All, Contains, count_by}
+-- A worker's lines, one more after the other.
+use Rattle.std.proofs.Common.{◌≡◌, ◌⊎◌, ℕ, ◌+◌, ◌<◌, ◌≤◌, leb, eqb, Bool, true, false, cond, List, [], ◌∷◌, ◌++◌, length, take, Option, Some, None, refl, sym, ap, subst, ◌∙◌, inl, inr, arith, length-append, Contains}
+use Rattle.std.specs.List.{zip, count_by}
 use Rattle.std.specs.Prelude.{slice_index_or, slice_set}
-use Rattle.std.proofs.lemmas.Bool.{cases_eq}
-use Rattle.std.proofs.lemmas.List.{length-set, get_or-set_same, get_or-set_other}
-use Rattle.std.proofs.lemmas.List.Elements.{Contains-push_cases}
-use Rattle.pb_pmem.specs.Count.{Rose}
+use Rattle.std.proofs.lemmas.Bool.{false≢true}
+use Rattle.std.proofs.lemmas.Bool.Decides.{nat_tests}
+use Rattle.std.proofs.lemmas.List.{take_more, take_more_set, take_all, length-set, length-take}
+use Rattle.std.proofs.lemmas.List.Elements.{Contains-append_left, Contains-push, Contains-push_cases}
+use Rattle.std.proofs.lemmas.List.Sums.{sum_by-append}
 use Rattle.pb_object.specs.declared.kind.Kind.{Kind}
 use Rattle.pb_object.specs.declared.request.Ask.{Ask}
 use Rattle.pb_object.specs.declared.request.Kept.{Kept as KeptRequest}
 use Rattle.pb_object.specs.declared.request.Reply.{Reply}
-use Rattle.pb_object.specs.History.{Entry, Round, History}
-use Rattle.pb_object.specs.Standing.{kept_list_of}
-use Rattle.pb_engine.specs.Good.{HasCome}
-use Rattle.pb_engine.specs.View.{FailedRound, EngineView, IsEngine}
+use Rattle.pb_object.specs.declared.request.TheConstants.{LAST_NUMBER}
+use Rattle.pb_object.specs.History.{Entry, Round, History, kept_by}
+use Rattle.pb_object.specs.KeptLists.{IsKeptList}
+use Rattle.pb_object.specs.Standing.{newest}
+use Rattle.pb_object.proofs.KeptLists.{keep_kept_list}
+use Rattle.pb_core.specs.Client.{Idle, Dated}
+use Rattle.pb_core.specs.MemoryParts.{own_entries}
 use Rattle.pb_report.specs.declared.outcome.Outcome.{Outcome}
-use Rattle.pb_report.specs.declared.outcome.Outcome.TheVariants.{New, Doubt}
-use Rattle.pb_report.specs.Outcomes.{HasEntry, IsTriedLine, entry_of, is_tried, lines_of_client}
-use Rattle.pb_report.proofs.GoingOn.{Line, HasEntriesOf}
-use Rattle.pb_run.specs.Answer.{ends_run}
-use Rattle.pb_run.specs.Run.{is_doubt, HasOneEntry, rounds_in_doubt, HasFaultForEach, AreNewRecorded}
-use Rattle.pb_run.specs.SoFar.{IsClientSoFar, IsDoubtSoFar, IsSoFar}
-use Rattle.pb_run.proofs.Lines.{zip-push, own_push, other_push, other_line}
-use Rattle.pb_run.proofs.Recorded.{IsOwn, own_line, earlier_line}
+use Rattle.pb_report.specs.declared.outcome.Outcome.TheVariants.{New, Kept, Old, Gap, Changed, Doubt, Left}
+use Rattle.pb_report.specs.Outcomes.{GoesOn, IsLine, HasEntry, AreLines, ask_of, decided_outcome, entry_of, is_same_op, kept_with, outcome_by}
+use Rattle.pb_report.specs.GoingOn.{is_ending, kept_next}
+use Rattle.pb_report.proofs.GoingOn.{IsNextLine, HasEntriesOf}
+use Rattle.pb_rule.specs.View.{PassView}
+use Rattle.pb_shared.specs.Passes.{PassSeen, SharedSeen}
+use Rattle.pb_run.specs.Line.{DecidesOrTries, RunsLine, IsServed, StaysOpen, TriesAsk, ends_run}
+use Rattle.pb_run.specs.Run.{is_doubt}
+use Rattle.pb_run.specs.Worker.{Line, is_new, own_history, IsPendingLine, IsSoFar, IsReady}
+use Rattle.pb_run.proofs.LineLemmas.{IsClientSoFar, next_line, left_line, zip-push}
 
--- the own client's lines with one more
-abbrev pub GoesTo : History → History → Ask → Outcome → Bool → List KeptRequest → List KeptRequest → Type 0
-GoesTo rounds more ask o flag known next =
-    (first : List KeptRequest) (lines : List Line) → IsClientSoFar rounds first lines known flag → IsClientSoFar more
-    first (lines ++ (ask, o) ∷ []) next (ends_run o)
+-- Counts
 
--- the round in doubt was so before, or is of the line's own request
-pub record IsOwnDoubt (ask : Ask) (o : Outcome) (round : Round) : Type 0 where
-  pub entry : Entry
-  pub alone : round.entries ≡ entry ∷ []
-  pub own : IsOwn ask o entry
-  pub ends : ends_run o ≡ true
+abbrev one_if : Bool → ℕ
+one_if b = cond b 1 0
 
--- what a line's outcome comes to: by these rounds, where it was by those before
-pub record IsStep (kind : Kind) (start old new : EngineView) (left : List Bool) (list : List Outcome)
-    (rounds : History) (ask : Ask) (o : Outcome) : Type 0 where
-  pub more : History
-  pub come : HasCome start new more (count_by is_doubt (list ++ o ∷ []))
-  pub sound : IsEngine kind new
-  pub clients : new.standing.clients ≡ old.standing.clients
-  pub entries : HasEntriesOf more rounds
-  pub stays : slice_index_or left ask.client false ≡ true → ends_run o ≡ true
-  pub own : GoesTo rounds more ask o (slice_index_or left ask.client false) (kept_list_of old.standing ask.client)
-      (kept_list_of new.standing ask.client)
-  pub others : (client : ℕ) → client ≢ ask.client → kept_list_of new.standing client ≡ kept_list_of old.standing client
-  pub each_entry : (entry : Entry) → HasEntry more entry → HasEntry rounds entry ⊎ IsOwn ask o entry
-  pub in_doubt : (failed : FailedRound) → new.doubt ≡ Some failed → (old.doubt ≡ Some failed) ⊎ IsOwnDoubt ask o failed.round
-  pub recorded : (reply : Reply) → o ≡ New reply → HasEntry more (entry_of ask reply)
-  pub single : All HasOneEntry more
-  pub few : rounds_in_doubt new.doubt + length more ≤ count_by is_tried (list ++ o ∷ [])
-  pub faults : HasFaultForEach start.device.faults new.device.faults (list ++ o ∷ [])
-  pub rose : Contains (list ++ o ∷ []) Doubt → Rose start.device.faults new.device.faults
-  pub shown : start.device.faults < new.device.faults → Contains (list ++ o ∷ []) Doubt
+counts : (test : Outcome → Bool) (lines : List Line) (ask : Ask) (o : Outcome) (b : Bool) → test o ≡ b
+    → count_by (λ line. test line.1) (lines ++ (ask, o) ∷ []) ≡ count_by (λ line. test line.1) lines + (0 + one_if b)
+counts test lines ask o b is =
+    sum_by-append (λ (line : Line). one_if (test line.1)) lines ((ask, o) ∷ []) ∙ ap (λ (t : Bool). count_by (λ (line : Line). test line.1) lines + (0 + one_if t)) is
 
--- the flag of the asking client, and those of others
-flag_of_own : (left : List Bool) (client : ℕ) (flag : Bool) → client < length left
-    → slice_index_or (slice_set left client flag) client false ≡ flag
-flag_of_own left client flag inside = get_or-set_same left client flag false inside
+counted : (test : Outcome → Bool) (lines : List Line) (ask : Ask) (o : Outcome) → test o ≡ true
+    → count_by (λ line. test line.1) (lines ++ (ask, o) ∷ []) ≡ count_by (λ line. test line.1) lines + 1
+counted test lines ask o is = counts test lines ask o true is
 
-flag_of_other : (left : List Bool) (client other : ℕ) (flag : Bool) → other ≢ client
-    → slice_index_or (slice_set left client flag) other false ≡ slice_index_or left other false
-flag_of_other left client other flag apart = get_or-set_other left client other flag false apart
+uncounted : (test : Outcome → Bool) (lines : List Line) (ask : Ask) (o : Outcome) → test o ≡ false
+    → count_by (λ line. test line.1) (lines ++ (ask, o) ∷ []) ≡ count_by (λ line. test line.1) lines
+uncounted test lines ask o is = let more = counts test lines ask o false is in omega (arith, more)
 
--- who was left stays so
-stays_left : (left : List Bool) (client other : ℕ) (flag : Bool) → client < length left
-    → (slice_index_or left client false ≡ true → flag ≡ true) → slice_index_or left other false ≡ true
-    → slice_index_or (slice_set left client flag) other false ≡ true
-stays_left left client other flag inside stays was = elim (cases_eq other client) [
-  | inl e ↦ ap (λ (c : ℕ). slice_index_or (slice_set left client flag) c false) e ∙
-      (flag_of_own left client flag inside ∙ stays (ap (λ (c : ℕ). slice_index_or left c false) (sym e) ∙ was))
-  | inr apart ↦ flag_of_other left client other flag apart ∙ was
-]
+-- Outcomes that kept requests decide
 
-new_recorded : (rounds more : History) (lines : List Line) (ask : Ask) (o : Outcome) → HasEntriesOf more rounds
-    → AreNewRecorded rounds lines → ((reply : Reply) → o ≡ New reply → HasEntry more (entry_of ask reply))
-    → AreNewRecorded more (lines ++ (ask, o) ∷ [])
-new_recorded rounds more lines ask o entries before own one reply line =
-    elim (Contains-push_cases lines (ask, o) (one, reply_line) line) [
-      | inl earlier ↦ entries (entry_of one reply) (before one reply earlier)
-      | inr same ↦ subst (λ (a : Ask). HasEntry more (entry_of a reply)) (ap (λ (l : Line). l.0) same)
-          (own reply (ap (λ (l : Line). l.1) same))
+abbrev IsDecided : Outcome → Type 0
+IsDecided (New reply) = ⊥
+IsDecided Doubt = ⊥
+IsDecided Left = ⊥
+IsDecided _ = Unit {0}
+
+abbrev AreDecided : Option Outcome → Type 0
+AreDecided None = Unit {0}
+AreDecided (Some outcome) = IsDecided outcome
+
+decided_by : (one : Option KeptRequest) (last : ℕ) (ask : Ask) → AreDecided (outcome_by one last ask)
+decided_by (Some one) last ask =
+    elim (is_same_op one.op ask.op) as (λ same. IsDecided (cond same (Kept one.reply) Changed)) [ true ↦ tt | false ↦ tt ]
+decided_by None last ask =
+    elim (leb ask.number last) as
+    (λ old. AreDecided (cond old (Some Old) (cond (eqb ask.number (last + 1)) None (Some Gap)))) [
+      | true ↦ tt
+      | false ↦ elim (eqb ask.number (last + 1)) as (λ next. AreDecided (cond next None (Some Gap)))
+          [ true ↦ tt | false ↦ tt ]
     ]
+
+record IsUntried (o : Outcome) : Type 0 where
+  new : is_new o ≡ false
+  doubt : is_doubt o ≡ false
+
+record Decides (o : Outcome) : Type 0 where
+  untried : IsUntried o
+  ends : ends_run o ≡ is_ending o
+  goes : GoesOn o (Unit {0}) (Unit {0})
+  kept : (known : List KeptRequest) (ask : Ask) → known ≡ kept_next known ask o
+
+decides : (o : Outcome) → IsDecided o → Decides o
+decides (New reply) is = absurd is
+decides Doubt is = absurd is
+decides Left is = absurd is
+decides (Kept reply) is = record { untried = record { new = refl; doubt = refl }; ends = refl; goes = tt; kept = λ known ask. refl }
+decides Old is = record { untried = record { new = refl; doubt = refl }; ends = refl; goes = tt; kept = λ known ask. refl }
+decides Gap is = record { untried = record { new = refl; doubt = refl }; ends = refl; goes = tt; kept = λ known ask. refl }
+decides Changed is = record { untried = record { new = refl; doubt = refl }; ends = refl; goes = tt; kept = λ known ask. refl }
+
+-- nothing is decided only of the number after the last one
+next_number : (one : Option KeptRequest) (last : ℕ) (ask : Ask) → outcome_by one last ask ≡ None → ask.number ≡ last + 1
+next_number (Some one) last ask is = absurd (cc (is))
+next_number None last ask is = grind (arith, nat_tests)
+
+-- One more line
+
+module _ (first : List KeptRequest) (lines : List Line) (ask : Ask) where
+  so_client : {left : Bool} {v : PassView} → IsSoFar first lines left v → IsClientSoFar (own_history v) first lines v.body.kept left
+  so_client so = record { are = so.are; ended = so.ended; kept = so.known }
+
+  pending_more : {v : PassView} (o : Outcome) → IsPendingLine lines v → IsPendingLine (lines ++ (ask, o) ∷ []) v
+  pending_more {v} o is = record { pending = is.pending; line = Contains-append_left lines ((ask, o) ∷ []) (v.body.ask, Doubt) is.line }
+
+  rests_more : {v : PassView} (o : Outcome) → (v.body.stage ≡ Idle) ⊎ IsPendingLine lines v → (v.body.stage ≡ Idle) ⊎ IsPendingLine (lines ++ (ask, o) ∷ []) v
+  rests_more o (inl idle) = inl idle
+  rests_more o (inr is) = inr (pending_more o is)
+
+  abbrev reply_or : Reply → Outcome → Reply
+  reply_or other (New reply) = reply
+  reply_or other _ = other
+
+  -- a line that isn't tried leaves the pass
+  untried : {left : Bool} {v : PassView} (o : Outcome) (ends : Bool) → IsSoFar first lines left v → IsUntried o → IsClientSoFar (own_history v) first (lines ++ (ask, o) ∷ []) v.body.kept ends → (ends ≡ false → left ≡ false) → IsSoFar first (lines ++ (ask, o) ∷ []) ends v
+  untried {left} {v} o ends so is client earlier = record {
+    are = client.are;
+    ended = client.ended;
+    known = client.kept;
+    kept = so.kept;
+    idle = λ goes. so.idle (earlier goes);
+    rests = rests_more o so.rests;
+    recorded = λ one reply line. elim (Contains-push_cases lines (ask, o) (one, New reply) line) [
+      | inl before ↦ so.recorded one reply before
+      | inr same ↦ absurd (false≢true (sym is.new ∙ ap (λ (l : Line). is_new l.1) same))
+    ];
+    told = λ entry own. Contains-append_left lines ((ask, o) ∷ []) (ask_of entry, New entry.reply) (so.told entry own);
+    new_lines = so.new_lines ∙ sym (uncounted is_new lines ask o is.new);
+    doubts = so.doubts ∙ sym (uncounted is_doubt lines ask o is.doubt);
+  }
+
+  decided_line : {v : PassView} (o : Outcome) → IsSoFar first lines false v → decided_outcome v.body.kept ask ≡ Some o → IsSoFar first (lines ++ (ask, o) ∷ []) (ends_run o) v
+  decided_line {v} o so is =
+      let facts : Decides o = decides o (subst AreDecided is (decided_by (kept_with ask.number v.body.kept) (newest v.body.kept).number ask)) in
+      let next : IsNextLine (own_history v) v.body.kept ask o = subst (λ (decided : Option Outcome). IsLine decided (own_history v) v.body.kept ask o (λ next. Unit {0}) (Unit {0})) (sym is) (refl, facts.goes) in
+      untried o (ends_run o) so facts.untried (next_line (own_history v) (own_history v) first lines v.body.kept v.body.kept ask o (λ entry has. has) next facts.ends (λ on. facts.kept v.body.kept ask) (so_client so)) (λ goes. refl)
+
+  -- the request is served
+
+  same_own : (v w : PassView) (entries : List Entry) → own_entries w.body ≡ entries → own_history w ≡ record { side = 0; entries = entries } ∷ []
+  same_own v w entries is = ap (λ (es : List Entry). record { side = 0; entries = es } ∷ []) is
+
+  has_own : (v : PassView) (entry : Entry) → Contains (own_entries v.body) entry → HasEntry (own_history v) entry
+  has_own v entry is = record { round = record { side = 0; entries = own_entries v.body }; told = Contains-push [] (record { side = 0; entries = own_entries v.body }); member = is }
+
+  own_has : (v : PassView) (entry : Entry) → HasEntry (own_history v) entry → Contains (own_entries v.body) entry
+  own_has v entry has = elim (Contains-push_cases [] (record { side = 0; entries = own_entries v.body }) has.round has.told) [
+    | inl nothing ↦ absurd (omega (arith, nothing.1))
+    | inr same ↦ subst (λ (r : Round). Contains r.entries entry) (sym same) has.member
+  ]
+
+  served_line : {v w : PassView} (reply : Reply) → IsSoFar first lines false v → None ≡ decided_outcome v.body.kept ask → ask.number ≤ LAST_NUMBER → IsServed ask reply v w → IsSoFar first (lines ++ (ask, New reply) ∷ []) false w
+  served_line {v} {w} reply so none few served =
+      let entry : Entry = entry_of ask reply in
+      let here : Contains (own_entries w.body) entry = subst (λ (es : List Entry). Contains es entry) (sym served.mine) (Contains-push (own_entries v.body) entry) in
+      let next : IsNextLine (own_history w) v.body.kept ask (New reply) = subst (λ (decided : Option Outcome). IsLine decided (own_history w) v.body.kept ask (New reply) (λ next. Unit {0}) (Unit {0})) none (has_own w entry here, tt) in
+      let client = next_line (own_history v) (own_history w) first lines v.body.kept w.body.kept ask (New reply) more next refl (λ on. served.kept) (so_client so) in
+      record {
+        are = client.are;
+        ended = client.ended;
+        known = client.kept;
+        kept = subst IsKeptList (sym served.kept) (keep_kept_list (kept_by entry) v.body.kept (next_number (kept_with ask.number v.body.kept) (newest v.body.kept).number ask (sym none)) few so.kept);
+        idle = λ goes. served.idle;
+        rests = inl served.idle;
+        recorded = λ one other line. elim (Contains-push_cases lines (ask, New reply) (one, New other) line) [
+          | inl before ↦ earlier (entry_of one other) (so.recorded one other before)
+          | inr same ↦ subst (λ (e : Entry). Contains (own_entries w.body) e) (λ i. entry_of (same i).0 (reply_or reply (same i).1)) here
+        ];
+        told = λ one own. elim (Contains-push_cases (own_entries v.body) entry one (subst (λ (es : List Entry). Contains es one) served.mine own)) [
+          | inl before ↦ Contains-append_left lines ((ask, New reply) ∷ []) (ask_of one, New one.reply) (so.told one before)
+          | inr same ↦ subst (λ (e : Entry). Contains (lines ++ (ask, New reply) ∷ []) (ask_of e, New e.reply)) same (Contains-push lines (ask, New reply))
+        ];
+        new_lines = ap length served.mine ∙ (length-append (own_entries v.body) (entry ∷ []) ∙ (ap (λ (n : ℕ). n + 1) so.new_lines ∙ sym (counted is_new lines ask (New reply) refl)));
+        doubts = ap length served.met ∙ (so.doubts ∙ sym (uncounted is_doubt lines ask (New reply) refl));
+      }
+    where
+      earlier : (entry : Entry) → Contains (own_entries v.body) entry → Contains (own_entries w.body) entry
+      earlier entry is = subst (λ (es : List Entry). Contains es entry) (sym served.mine) (Contains-append_left (own_entries v.body) (entry_of ask reply ∷ []) entry is)
+
+      more : HasEntriesOf (own_history w) (own_history v)
+      more entry has = has_own w entry (earlier entry (own_has v entry has))
+
+  -- it is in doubt
+
+  doubt_line : {v w : PassView} → IsSoFar first lines false v → None ≡ decided_outcome v.body.kept ask → StaysOpen ask v w → IsSoFar first (lines ++ (ask, Doubt) ∷ []) true w
+  doubt_line {v} {w} so none stays =
+      let next : IsNextLine (own_history w) v.body.kept ask Doubt = subst (λ (decided : Option Outcome). IsLine decided (own_history w) v.body.kept ask Doubt (λ next. Unit {0}) (Unit {0})) none tt in
+      let client = next_line (own_history v) (own_history w) first lines v.body.kept w.body.kept ask Doubt more next refl (λ on. absurd (false≢true (sym on))) (so_client so) in
+      record {
+        are = client.are;
+        ended = client.ended;
+        known = client.kept;
+        kept = subst IsKeptList (sym stays.kept) so.kept;
+        idle = λ goes. absurd (false≢true (sym goes));
+        rests = inr (record { pending = stays.pending; line = subst (λ (a : Ask). Contains (lines ++ (ask, Doubt) ∷ []) (a, Doubt)) (sym stays.asked) (Contains-push lines (ask, Doubt)) });
+        recorded = λ one other line. elim (Contains-push_cases lines (ask, Doubt) (one, New other) line) [
+          | inl before ↦ subst (λ (es : List Entry). Contains es (entry_of one other)) (sym stays.mine) (so.recorded one other before)
+          | inr same ↦ absurd (false≢true (ap (λ (l : Line). is_new l.1) same))
+        ];
+        told = λ one own. Contains-append_left lines ((ask, Doubt) ∷ []) (ask_of one, New one.reply) (so.told one (subst (λ (es : List Entry). Contains es one) stays.mine own));
+        new_lines = ap length stays.mine ∙ (so.new_lines ∙ sym (uncounted is_new lines ask Doubt refl));
+        doubts = stays.met ∙ (ap (λ (n : ℕ). n + 1) so.doubts ∙ sym (counted is_doubt lines ask Doubt refl));
+      }
+    where
+      more : HasEntriesOf (own_history w) (own_history v)
+      more entry has = has_own w entry (subst (λ (es : List Entry). Contains es entry) (sym stays.mine) (own_has v entry has))
+
+  tried_line : {v w : PassView} (o : Outcome) → IsSoFar first lines false v → None ≡ decided_outcome v.body.kept ask → ask.number ≤ LAST_NUMBER → TriesAsk ask v w o → IsSoFar first (lines ++ (ask, o) ∷ []) (ends_run o) w
+  tried_line (New reply) so none few tried = served_line reply so none few tried
+  tried_line Doubt so none few tried = doubt_line so none tried
+  tried_line (Kept reply) so none few tried = absurd tried
+  tried_line Old so none few tried = absurd tried
+  tried_line Gap so none few tried = absurd tried
+  tried_line Changed so none few tried = absurd tried
+  tried_line Left so none few tried = absurd tried
+
+  answered_line : {v w : PassView} (o : Outcome) (decided : Option Outcome) → decided ≡ decided_outcome v.body.kept ask → IsSoFar first lines false v → ask.number ≤ LAST_NUMBER → DecidesOrTries decided ask v w o → IsSoFar first (lines ++ (ask, o) ∷ []) (ends_run o) w
+  answered_line o None is so few by = tried_line o so is few by
+  answered_line {v} {w} o (Some decided) is so few by =
+      subst (IsSoFar first (lines ++ (ask, o) ∷ []) (ends_run o)) (sym by.1) (decided_line o so (sym is ∙ ap Some (sym by.0)))
+
+  pub line_more : {v w : PassView} (o : Outcome) (left : Bool) → IsSoFar first lines left v → ask.number ≤ LAST_NUMBER → RunsLine left ask v w o → IsSoFar first (lines ++ (ask, o) ∷ []) (ends_run o) w
+  line_more {v} {w} o true so few is =
+      subst (IsSoFar first (lines ++ (ask, o) ∷ []) (ends_run o)) (sym is.1)
+      (subst (λ (p : Outcome). IsSoFar first (lines ++ (ask, p) ∷ []) (ends_run p) v) (sym is.0)
+      (untried Left true so (record { new = refl; doubt = refl }) (left_line (own_history v) first lines v.body.kept ask (so_client so)) (λ goes. absurd (false≢true (sym goes)))))
+  line_more {v} {w} o false so few is = answered_line o (decided_outcome v.body.kept ask) refl so few is
+
+-- From the first line on
+
+no_lines : (history : History) (kept : List KeptRequest) → AreLines history kept []
+unfolding AreLines
+no_lines history kept = tt
+
+pub at_first : {kind : Kind} {object : SharedSeen} {pass : PassSeen} {asks : List Ask} → IsReady kind object pass asks → IsSoFar pass.view.body.kept [] false pass.view
+at_first {pass = pass} ready = record {
+  are = no_lines (own_history pass.view) pass.view.body.kept;
+  ended = refl;
+  known = λ goes. refl;
+  kept = ready.kept;
+  idle = λ goes. ready.idle;
+  rests = inl ready.idle;
+  recorded = λ ask reply line. absurd (omega (arith, line.1));
+  told = λ entry own. absurd (none (subst (λ (es : List Entry). Contains es entry) entries own));
+  new_lines = ap length entries;
+  doubts = ap length ready.calm;
+}
   where
-    reply_line : Outcome
-    reply_line = New reply
+    entries : own_entries pass.view.body ≡ []
+    entries = ap (λ (mine : List Dated). own_entries (record pass.view.body { mine = mine })) ready.none
 
-pub step_so_far : (kind : Kind) (start old new : EngineView) (left : List Bool) (asks : List Ask) (list : List Outcome)
-    (ask : Ask) (o : Outcome) (so : IsSoFar kind start old left asks list)
-    → ask.client < length left → IsStep kind start old new left list so.rounds ask o → IsSoFar kind start new
-    (slice_set left ask.client (ends_run o)) (asks ++ ask ∷ []) (list ++ o ∷ [])
-step_so_far kind start old new left asks list ask o so inside step =
-    let lines : List Line = zip asks list in
-    let pushed : zip (asks ++ ask ∷ []) (list ++ o ∷ []) ≡ lines ++ (ask, o) ∷ [] = zip-push asks list ask o
-    so.same_length in
-    let flags = slice_set left ask.client (ends_run o) in
-    record {
-      rounds = step.more;
-      come = step.come;
-      sound = step.sound;
-      clients = step.clients ∙ so.clients;
-      flags = length-set left ask.client (ends_run o) ∙ so.flags;
-      same_length = omega (arith, so.same_length, length-append list (o ∷ []), length-append asks (ask ∷ []));
-      each_client = λ client. subst (λ (all : List Line). IsClientSoFar step.more (kept_list_of start.standing client)
-          (lines_of_client client all) (kept_list_of new.standing client) (slice_index_or flags client false)) (sym pushed)
-          (each client (cases_eq client ask.client));
-      each_entry =
-          λ entry is. subst (λ (all : List Line). IsTriedLine all entry) (sym pushed) (elim (step.each_entry entry is) [
-            | inl before ↦ earlier_line lines (ask, o) entry (so.each_entry entry before)
-            | inr own ↦ own_line lines ask o entry own
-          ]);
-      in_doubt = λ failed is. subst (λ (all : List Line). IsDoubtSoFar flags all failed.round) (sym pushed)
-          (elim (step.in_doubt failed is) [
-            | inl before ↦ doubt_before failed.round (so.in_doubt failed before)
-            | inr own ↦ doubt_own failed.round own
-          ]);
-      recorded = subst (AreNewRecorded step.more) (sym pushed)
-          (new_recorded so.rounds step.more lines ask o step.entries so.recorded step.recorded);
-      single = step.single;
-      few = step.few;
-      faults = step.faults;
-      rose = step.rose;
-      shown = step.shown;
-    }
+    none : {entry : Entry} → Contains [] entry → ⊥
+    none is = omega (arith, is.1)
+
+-- the lines before a place are through
+pub record IsRunTo (first : List KeptRequest) (asks : List Ask) (list : List Outcome) (place : ℕ) (left : Bool) (v : PassView) : Type 0 where
+  pub so : IsSoFar first (zip (take place asks) (take place list)) left v
+  pub places : length list ≡ length asks
+
+pub at_start : {kind : Kind} {object : SharedSeen} {pass : PassSeen} (asks : List Ask) (list : List Outcome) → length list ≡ length asks → IsReady kind object pass asks → IsRunTo pass.view.body.kept asks list 0 false pass.view
+at_start {pass = pass} asks list places ready = record { so = at_first ready; places = places }
+
+pub one_further : (first : List KeptRequest) (asks : List Ask) (list : List Outcome) (place : ℕ) (left : Bool) (v w : PassView) (d : Ask) (o : Outcome)
+    → place < length asks → (slice_index_or asks place d).number ≤ LAST_NUMBER → RunsLine left (slice_index_or asks place d) v w o → IsRunTo first asks list place left v → IsRunTo first asks (slice_set list place o) (place + 1) (ends_run o) w
+one_further first asks list place left v w d o inside few is to = record {
+  so = subst (λ (lines : List Line). IsSoFar first lines (ends_run o) w) (sym whole) (line_more first (zip (take place asks) (take place list)) (slice_index_or asks place d) o left to.so few is);
+  places = length-set list place o ∙ to.places;
+}
   where
-    all_lines : List Line
-    all_lines = zip asks list
+    before : length (take place list) ≡ length (take place asks)
+    before = omega (arith, length-take place list, length-take place asks, to.places)
 
-    each : (client : ℕ) → (client ≡ ask.client) ⊎ (client ≢ ask.client)
-        → IsClientSoFar step.more (kept_list_of start.standing client)
-        (lines_of_client client (zip asks list ++ (ask, o) ∷ [])) (kept_list_of new.standing client)
-        (slice_index_or (slice_set left ask.client (ends_run o)) client false)
-    each client (inl e) =
-        subst (λ (c : ℕ). IsClientSoFar step.more (kept_list_of start.standing c)
-        (lines_of_client c (zip asks list ++ (ask, o) ∷ [])) (kept_list_of new.standing c)
-        (slice_index_or (slice_set left ask.client (ends_run o)) c false)) (sym e)
-        (subst (λ (ls : List Line). IsClientSoFar step.more (kept_list_of start.standing ask.client) ls
-        (kept_list_of new.standing ask.client) (slice_index_or (slice_set left ask.client (ends_run o)) ask.client
-        false)) (sym (own_push (zip asks list) ask o))
-        (subst (λ (flag : Bool). IsClientSoFar step.more (kept_list_of start.standing ask.client)
-        (lines_of_client ask.client (zip asks list) ++ (ask, o) ∷ []) (kept_list_of new.standing ask.client) flag)
-        (sym (flag_of_own left ask.client (ends_run o) inside))
-        (step.own (kept_list_of start.standing ask.client) (lines_of_client ask.client (zip asks list))
-        (so.each_client ask.client))))
-    each client (inr apart) =
-        subst (λ (ls : List Line). IsClientSoFar step.more (kept_list_of start.standing client) ls
-        (kept_list_of new.standing client) (slice_index_or (slice_set left ask.client (ends_run o)) client false))
-        (sym (other_push (zip asks list) ask o client apart))
-        (subst (λ (flag : Bool). IsClientSoFar step.more (kept_list_of start.standing client)
-        (lines_of_client client (zip asks list)) (kept_list_of new.standing client) flag)
-        (sym (flag_of_other left ask.client client (ends_run o) apart))
-        (other_line so.rounds step.more (kept_list_of start.standing client) (lines_of_client client (zip asks list))
-        (kept_list_of old.standing client) (kept_list_of new.standing client) (slice_index_or left client false)
-        step.entries (λ goes. step.others client apart) (so.each_client client)))
+    whole : zip (take (place + 1) asks) (take (place + 1) (slice_set list place o)) ≡ zip (take place asks) (take place list) ++ (slice_index_or asks place d, o) ∷ []
+    whole = (λ i. zip (take_more asks place d inside i) (take_more_set list place o (omega (arith, inside, to.places)) i)) ∙ zip-push (take place asks) (take place list) (slice_index_or asks place d) o before
 
-    doubt_before : (round : Round) → IsDoubtSoFar left (zip asks list) round
-        → IsDoubtSoFar (slice_set left ask.client (ends_run o)) (zip asks list ++ (ask, o) ∷ []) round
-    doubt_before round doubt = record {
-      entry = doubt.entry;
-      alone = doubt.alone;
-      ended = stays_left left ask.client doubt.entry.client (ends_run o) inside step.stays doubt.ended;
-      line = earlier_line (zip asks list) (ask, o) doubt.entry doubt.line;
-    }
-
-    doubt_own : (round : Round) → IsOwnDoubt ask o round
-        → IsDoubtSoFar (slice_set left ask.client (ends_run o)) (zip asks list ++ (ask, o) ∷ []) round
-    doubt_own round doubt = record {
-      entry = doubt.entry;
-      alone = doubt.alone;
-      ended = ap (λ (c : ℕ). slice_index_or (slice_set left ask.client (ends_run o)) c false) (ap (λ (one : Ask). one.client) doubt.own.is) ∙
-          (flag_of_own left ask.client (ends_run o) inside ∙ doubt.ends);
-      line = own_line (zip asks list) ask o doubt.entry doubt.own;
-    }
+pub all_through : (first : List KeptRequest) (asks : List Ask) (list : List Outcome) (place : ℕ) (left : Bool) (v : PassView) → length asks ≤ place → IsRunTo first asks list place left v → IsSoFar first (zip asks list) left v
+all_through first asks list place left v all to =
+    subst (λ (lines : List Line). IsSoFar first lines left v) (λ i. zip (take_all place asks all i) (take_all place list (omega (arith, all, to.places)) i)) to.so

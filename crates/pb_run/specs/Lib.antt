@@ -1,3 +1,5 @@
-pub mod Answer
+pub mod Crew
+pub mod Line
+pub mod Lists
 pub mod Run
-pub mod SoFar
+pub mod Worker

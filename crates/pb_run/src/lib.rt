@@ -1,8 +1,10 @@
-//! Running a script over an engine: what becomes of each of its requests.
+//! Running a script over an engine: a worker for each client, and what becomes of each of its requests.
 #![tactic(auto)]
 
-mod attempt;
-mod judge;
+mod crew;
+mod lines;
+mod lists;
 mod run;
+mod worker;
 
 pub use run::run_script;

@@ -2,6 +2,14 @@
 #![tactic(auto)]
 
 #[cfg(test)]
+mod crowds;
+#[cfg(test)]
+mod faults;
+#[cfg(test)]
 mod outcomes;
+#[cfg(test)]
+mod places;
+#[cfg(test)]
+mod scripts;
 #[cfg(test)]
 mod session;

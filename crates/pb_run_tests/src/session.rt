@@ -1,5 +1,5 @@
 //! Scripts that are run over one engine, one after the other.
-ghost use Rattle.std.specs.Prelude.{◌≡◌, All, None, OnOk};
+ghost use Rattle.std.specs.Prelude.{◌≡◌, true, All, OnOk};
 ghost use Rattle.pb_engine.specs.View.{IsEngine};
 ghost use Rattle.pb_script.specs.Script.{IsAskOf};
 
@@ -15,8 +15,10 @@ use pb_run::run_script;
 use pb_script::parse_script;
 use std::alloc::Global;
 use std::process::Abort;
+use std::sync::Wait;
+use std::thread::Threads;
 
-/// An engine of a map of 4 on the device in memory.
+/// An engine of a map on the device in memory.
 pub type MapEngine = Comb<RegMap, Image>;
 
 // A device whose syncs with these numbers fail and leave nothing.
@@ -35,8 +37,8 @@ fn device(rt: &impl Abort, alloc: Global, syncs: &[u64]) -> Image {
     device
 }
 
-// A map for so many clients on a device of which these syncs fail. Making the map is the first one.
-fn map(rt: &impl Abort, alloc: Global, clients: u32, syncs: &[u64]) -> MapEngine {
+/// A map of 4 for so many clients on a device of which these syncs fail. Making the map is the first one.
+pub fn map(rt: &impl Abort, alloc: Global, clients: u32, syncs: &[u64]) -> MapEngine {
     assert!(rt; 1 <= clients && clients <= 16);
     match MapEngine::fresh(alloc, device(rt, alloc, syncs), clients, 4) {
         Ok(engine) => engine,
@@ -44,33 +46,16 @@ fn map(rt: &impl Abort, alloc: Global, clients: u32, syncs: &[u64]) -> MapEngine
     }
 }
 
-// Settles where the engine isn't sure, so that nothing is in doubt.
+// Settles where the engine isn't sure.
 fn settle<E: Engine>(engine: &mut E) -> Result<(), DeviceFault>
-    ensures { OnOk result ((E.seen engine.new).doubt ≡ None) }
+    ensures { OnOk result ((E.seen engine.new).sure ≡ true) }
 {
-    let _ = engine.clients();
     if engine.sure() {
         return Ok(());
     }
     match engine.settle() {
         Ok(_) => Ok(()),
         Err(fault) => Err(fault),
-    }
-}
-
-/// A script, and the outcome lines that it is to have.
-#[derive(Clone, Copy)]
-pub struct Run {
-    pub script: &'static str,
-    pub lines: &'static str,
-}
-
-/// Makes a map as `map` does, and runs these scripts over it, one after the other.
-pub fn run_all(rt: &impl Abort, alloc: Global, clients: u32, syncs: &[u64], runs: &[Run]) {
-    let mut engine = map(rt, alloc, clients, syncs);
-    for run in runs {
-        let sink = outcome_lines(rt, alloc, &mut engine, run.script);
-        assert!(rt; sink.bytes() == run.lines.as_bytes());
     }
 }
 
@@ -86,26 +71,38 @@ fn asks_of<E: Engine>(rt: &impl Abort, alloc: Global, engine: &E, script: &str) 
     }
 }
 
-// The outcome lines of requests.
-fn written(rt: &impl Abort, alloc: Global, asks: &[Ask], outcomes: &[Outcome]) -> ByteSink {
-    let mut sink = ByteSink::new(alloc, 4096, 4096, &[]).expect(rt, "memory");
-    assert!(rt; outcomes.len() == asks.len());
-    assert!(rt; write_outcomes(&mut sink, asks, outcomes).is_ok());
-    sink
+/// An engine, and the requests that were last run over it, with their outcomes.
+#[derive(Drop)]
+pub struct Ran<E: Engine> {
+    pub engine: E,
+    pub asks: Vec<Ask>,
+    pub outcomes: Vec<Outcome>,
 }
 
-// Settles, runs a script and writes its outcome lines.
-fn outcome_lines<E: Engine>(
-    rt: &impl Abort,
+/// Settles the engine and runs a script over it.
+pub fn run<R: Wait + Threads + Sync + Abort, E: Engine + Send>(
+    rt: &R,
     alloc: Global,
-    engine: &mut E,
+    mut engine: E,
     script: &str,
-) -> ByteSink {
-    if settle(engine).is_err() {
-        panic!(rt; "the engine is settled");
-    }
-    let asks = asks_of(rt, alloc, engine, script);
+) -> Ran<E> {
+    assert!(rt; settle(&mut engine).is_ok());
+    let asks = asks_of(rt, alloc, &engine, script);
     let mut outcomes = vec![in alloc; Outcome::Left; asks.len()].expect(rt, "memory");
-    run_script(engine, &asks, &mut outcomes, &OpenGate);
-    written(rt, alloc, &asks, &outcomes)
+    match run_script(rt, alloc, engine, &asks, &mut outcomes, &OpenGate) {
+        Ok(engine) => Ran {
+            engine,
+            asks,
+            outcomes,
+        },
+        Err(_) => panic!(rt; "memory"),
+    }
+}
+
+/// The outcome lines of a run.
+pub fn lines_of<E: Engine>(rt: &impl Abort, alloc: Global, ran: &Ran<E>) -> ByteSink {
+    let mut sink = ByteSink::new(alloc, 4096, 4096, &[]).expect(rt, "memory");
+    assert!(rt; ran.outcomes.len() == ran.asks.len());
+    assert!(rt; write_outcomes(&mut sink, &ran.asks, &ran.outcomes).is_ok());
+    sink
 }

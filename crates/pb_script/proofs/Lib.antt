@@ -4,6 +4,7 @@ pub mod Asked
 pub mod Asking
 pub mod Counting
 pub mod Cuts
+pub mod Drawn
 pub mod Plain
 pub mod Schedules
 pub mod Sources

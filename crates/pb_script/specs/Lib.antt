@@ -1,4 +1,5 @@
 pub mod Command
+pub mod Drill
 pub mod Events
 pub mod Print
 pub mod Readers

@@ -2,6 +2,7 @@
 #![tactic(auto)]
 
 mod command;
+mod drill;
 mod event;
 mod print;
 mod request;
@@ -10,6 +11,7 @@ mod script;
 mod words;
 
 pub use command::{Command, MOST_CLIENTS, MOST_SIZE, parse_words};
+pub use drill::{DRILL_SIZE, generate};
 pub use event::{EventLine, MOST_TIMES, Repeat, read_event_line};
 pub use print::print_script;
 pub use schedule::{MOST_EVENTS, parse_schedule};

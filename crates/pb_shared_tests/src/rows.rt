@@ -7,6 +7,7 @@ use pb_comb::Comb;
 use pb_image::{Call, Fail, How, Image};
 use pb_map::RegMap;
 use pb_object::{Op, Reply};
+use pb_pmem::LogOp;
 use pb_shared::{Again, Attempt, Pass, Performed, Shared};
 use std::alloc::Global;
 use std::process::Abort;
@@ -126,9 +127,16 @@ fn ended(
     object.close(passes).close()
 }
 
+// How many operations of a log behind its first ones are such.
+fn count_of(log: &[LogOp], first: usize, op: LogOp) -> usize {
+    log.iter().skip(first).filter(|other| **other == op).count()
+}
+
 // Both announce: one round serves both, and the second finds its reply.
 #[test]
 fn one_round_serves_both(rt: HostRuntime) {
+    let made = map(&rt, rt.alloc(), device(&rt, rt.alloc(), 4096, &[]), 2).close();
+    assert!(&rt; made.log().len() == 33);
     let (object, mut first, mut second) = two(&rt, rt.alloc(), &[]);
     let one = announce(&rt, &object, &mut first, &put(0, 5));
     let other = announce(&rt, &object, &mut second, &put(1, 6));
@@ -138,7 +146,9 @@ fn one_round_serves_both(rt: HostRuntime) {
     let answer = attempt(&rt, &object, &mut second);
     assert!(&rt; answer == Attempt::Done(was(0, 1)));
     let device = ended(&rt, rt.alloc(), object, first, second);
-    assert!(&rt; device.log().len() == 56);
+    let log = device.log();
+    assert!(&rt; log.len() == 56);
+    assert!(&rt; count_of(log, 33, LogOp::Fence) == 1 && count_of(log, 33, LogOp::Sync) == 1);
 }
 
 // The first one's sync fails: the second one settles, and its round serves it.

@@ -6,8 +6,10 @@ const COMMANDS: &str = "pbcomb: the commands are\n\
     \x20 pbcomb DEVICE run                       run the script on the region that is there\n\
     \x20 pbcomb DEVICE report                    print what the region holds\n\
     \x20 pbcomb DEVICE replay KIND CLIENTS SIZE  play the schedule on standard input through the protocol\n\
-    KIND is map, stack, heap or queue, CLIENTS is 1 to 16, and SIZE is 1 to 1024. DEVICE is the path of a file,\n\
-    which is made where it is absent, or - for a trial device that is gone at the end.";
+    \x20 pbcomb DEVICE drill SEED CLIENTS COUNT  make a map, run a script made from the seed on it, and print sums\n\
+    KIND is map, stack, heap or queue, CLIENTS is 1 to 16, SIZE is 1 to 1024, and CLIENTS times COUNT is 1 to 32768.\n\
+    DEVICE is the path of a file, which is made where it is absent, or - for a trial device that is gone at the end.\n\
+    At the top of the repository the program is ./pbcomb.";
 
 /// What a status means and what may be done, in a few lines. Nothing behind `Done`.
 pub fn advice(status: Status) -> &'static str {
@@ -17,8 +19,9 @@ pub fn advice(status: Status) -> &'static str {
             "pbcomb: memory ran out. No request was applied: run it again with more memory.",
         Status::Usage => COMMANDS,
         Status::Refused => {
-            "pbcomb: nothing was done. `line N`: line N of the script is no request of this kind, or its number isn't the next \
-            one\nof its client; or line N of the schedule is no event, or one that can't happen then. `many`: the script has more\n\
+            "pbcomb: nothing was done. `line N`: line N of standard input, blank lines and comments counted, is no request of\n\
+            this kind, or its number isn't the next one of its client; or it is no event of a schedule, or one that can't\n\
+            happen then. `many`: the script has more\n\
             than 32768 request lines, or the schedule more than 4096 event lines. `long`: it has more than 4194304 bytes."
         }
         Status::ReadFault =>
@@ -30,7 +33,7 @@ pub fn advice(status: Status) -> &'static str {
         Status::DeviceFault => {
             "pbcomb: a call of the device failed. `doubt`: the request may be applied or not. Run the same script again, and\n\
             each request is answered, and none is applied twice. `device fault` at once: the file can't be opened, read, made\n\
-            or synced, or hasn't 131072 bytes."
+            or synced, or hasn't 131072 bytes. Of a drill the sums count what is known for sure."
         }
         Status::Unusable => {
             "pbcomb: nothing was done. `none`: the device has no region; `fresh` makes one. `taken`: it has one; `run` goes on\n\

@@ -12,7 +12,12 @@ use pb_pmem::Pmem;
 use std::alloc::AllocError;
 use std::process::ExitCode;
 use std::rt::Env;
-use std::{env, io};
+use std::sync::Wait;
+use std::thread::Threads;
+use std::{env, fs, io};
+
+/// A folder that can be opened wherever the program runs, and neither read nor written as a file.
+const FOLDER: &str = "/";
 
 /// The word for a trial device in memory, which is gone at the end.
 const TRIAL: &str = "-";
@@ -21,34 +26,50 @@ const TRIAL: &str = "-";
 const TRIAL_ROOM: u32 = 2_097_152;
 
 fn main(rt: HostRuntime) -> ExitCode {
-    let status = run(&rt).unwrap_or(Status::OutOfMemory);
+    // A standard stream that is closed leaves its number to the next file that is opened, and what is printed would go into it. So a folder
+    // takes each of the three first: reading or writing it fails.
+    let _input = fs::open(&rt, FOLDER);
+    let _output = fs::open(&rt, FOLDER);
+    let _error = fs::open(&rt, FOLDER);
+    let status = match words(&rt) {
+        Ok(words) => {
+            let (place, command) = device_and_command(&words);
+            if place == TRIAL {
+                run_over(&rt, command, Image::zero(rt.alloc(), TRIAL_ROOM))
+            } else {
+                run_over(&rt, command, FileDev::new(&rt, place))
+            }
+        }
+        Err(_) => Status::OutOfMemory,
+    };
     if status != Status::Done {
         let _ = rt.eprintln(advice(status));
     }
     ExitCode::from(status.code())
 }
 
-/// Runs the words behind the device over the device that the first word names: the trial device, or the file at that path.
-fn run(rt: &HostRuntime) -> Result<Status, AllocError> {
-    let words = words(rt)?;
+/// The word that names the device, which is empty where there is none, and the words behind it.
+fn device_and_command(words: &[String]) -> (&str, &[String]) {
     match words.split_first() {
-        Some((device, command)) if device.as_str() == TRIAL => {
-            run_over(rt, command, Image::zero(rt.alloc(), TRIAL_ROOM)?)
-        }
-        Some((path, command)) => run_over(rt, command, FileDev::new(rt, path.as_str())?),
-        None => run_over(rt, &[], FileDev::new(rt, "")?),
+        Some((place, command)) => (place.as_str(), command),
+        None => ("", words),
     }
 }
 
-/// Runs the words over a device, from standard input to standard output.
-fn run_over<R: Input + Print + AllocGlobal, P: Pmem + Send>(
+/// Runs the words over a device for which there was memory, from standard input to standard output.
+fn run_over<R: Input + Print + AllocGlobal + Wait + Threads + Sync, P: Pmem + Send>(
     rt: &R,
     command: &[String],
-    device: P,
-) -> Result<Status, AllocError> {
+    device: Result<P, AllocError>,
+) -> Status {
+    let device = match device {
+        Ok(device) => device,
+        Err(_) => return Status::OutOfMemory,
+    };
     let mut source = StdSource::new(rt.reader());
     let mut sink = StdSink::new(io::writer(rt));
     let done = top(
+        rt,
         rt.alloc(),
         command,
         &mut source,
@@ -56,7 +77,7 @@ fn run_over<R: Input + Print + AllocGlobal, P: Pmem + Send>(
         device,
         &OpenGate,
     );
-    Ok(done.status)
+    done.status
 }
 
 /// The words after the program's name, and none where one of them isn't UTF-8.

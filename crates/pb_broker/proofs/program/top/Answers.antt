@@ -3,7 +3,7 @@ use Rattle.std.proofs.KnownBytes.{Keeps-refl}
 use Rattle.pb_script.specs.declared.command.Command.{Command}
 use Rattle.pb_script.specs.declared.command.Command.TheVariants.{Fresh, Run, Replay, Drill}
 use Rattle.pb_script.specs.Command.{command_of, texts}
-use Rattle.pb_broker.proofs.Answered.{call_of, served_or_stopped, no_command, replayed}
+use Rattle.pb_broker.proofs.Answered.{call_of, served_or_stopped, no_command, replayed, drilled}
 use Rattle.pb_broker.proofs.program.top.Goals as goal
 use Rattle.pb_broker.specs.Stream.{stream}
 
@@ -42,22 +42,22 @@ returns-in-Some-Replay g c =
 pub returns-in-Some-Drill : goal.returns-in-Some-Drill
 returns-in-Some-Drill g c =
     let words = texts c.args.words.now in
-    let command : Command = Drill c.in-Some-Drill.field-0-0 c.in-Some-Drill.field-0-1 c.in-Some-Drill.field-0-2 in
-    let is : command_of words ≡ Some command = search rules in
-    no_command words (Some command)
-    (call_of (stream (g.S.Source.rest c.args.source.now) (g.S.Source.rest c.args.source.now) (g.S.Source.fault_count c.args.source.now) (g.S.Source.fault_count c.args.source.now)) (g.P.Pmem.seen c.args.device) (g.P.Pmem.seen c.no_command.result.device))
-    (stream (g.K.Sink.bytes c.args.sink.now) (g.K.Sink.bytes c.no_command.new.sink) (g.K.Sink.fault_count c.args.sink.now) (g.K.Sink.fault_count c.no_command.new.sink))
-    c.no_command.result.status is (λ usage. (refl, usage.0, usage.1))
-    (record { same = Keeps-refl (g.S.Source.rest c.args.source.now); reads = refl }, c.no_command.ensures.device)
-    c.no_command.ensures.said
+    let seed = c.in-Some-Drill.seed in
+    let clients = c.in-Some-Drill.clients in
+    let count = c.in-Some-Drill.count in
+    let is : command_of words ≡ Some (Drill seed clients count) = search rules in
+    drilled words seed clients count
+    (call_of (stream (g.S.Source.rest c.args.source.now) (g.S.Source.rest c.args.source.now) (g.S.Source.fault_count c.args.source.now) (g.S.Source.fault_count c.args.source.now)) (g.P.Pmem.seen c.args.device) (g.P.Pmem.seen c.drill.result.device))
+    (stream (g.K.Sink.bytes c.args.sink.now) (g.K.Sink.bytes c.drill.new.sink) (g.K.Sink.fault_count c.args.sink.now) (g.K.Sink.fault_count c.drill.new.sink))
+    c.drill.result.status is (record { same = Keeps-refl (g.S.Source.rest c.args.source.now); reads = refl }) c.drill.ensures
 
 pub returns-in-None : goal.returns-in-None
 returns-in-None g c =
     let words = texts c.args.words.now in
     let is : command_of words ≡ None = search rules in
     no_command words None
-    (call_of (stream (g.S.Source.rest c.args.source.now) (g.S.Source.rest c.args.source.now) (g.S.Source.fault_count c.args.source.now) (g.S.Source.fault_count c.args.source.now)) (g.P.Pmem.seen c.args.device) (g.P.Pmem.seen c.no_command-in-None.result.device))
-    (stream (g.K.Sink.bytes c.args.sink.now) (g.K.Sink.bytes c.no_command-in-None.new.sink) (g.K.Sink.fault_count c.args.sink.now) (g.K.Sink.fault_count c.no_command-in-None.new.sink))
-    c.no_command-in-None.result.status is (λ usage. (refl, usage.0, usage.1))
-    (record { same = Keeps-refl (g.S.Source.rest c.args.source.now); reads = refl }, c.no_command-in-None.ensures.device)
-    c.no_command-in-None.ensures.said
+    (call_of (stream (g.S.Source.rest c.args.source.now) (g.S.Source.rest c.args.source.now) (g.S.Source.fault_count c.args.source.now) (g.S.Source.fault_count c.args.source.now)) (g.P.Pmem.seen c.args.device) (g.P.Pmem.seen c.no_command.result.device))
+    (stream (g.K.Sink.bytes c.args.sink.now) (g.K.Sink.bytes c.no_command.new.sink) (g.K.Sink.fault_count c.args.sink.now) (g.K.Sink.fault_count c.no_command.new.sink))
+    c.no_command.result.status is (λ usage. (refl, usage.0, usage.1))
+    (record { same = Keeps-refl (g.S.Source.rest c.args.source.now); reads = refl }, c.no_command.ensures.device)
+    c.no_command.ensures.said

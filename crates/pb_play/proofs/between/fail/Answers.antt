@@ -1,5 +1,5 @@
 use Rattle.std.proofs.Common.{subst}
-use Rattle.pb_play.specs.Worlds.{IsCalling}
+use Rattle.pb_core.specs.Play.{IsCalling}
 use Rattle.pb_play.proofs.Scanning.{works_at}
 use Rattle.pb_play.proofs.between.fail.Goals as goal
 

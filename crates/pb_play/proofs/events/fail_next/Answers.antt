@@ -13,4 +13,4 @@ returns-then-holder-client-clause-stepped c = λ w is s may.
 pub returns-clause-stepped : goal.returns-clause-stepped
 returns-clause-stepped c = λ w is s may.
     let holds : w.memory.owner ≡ core.Held c.args.client c.args.side = holds_turn c.args.holder c.args.side s.memory c.requires.holds ∙ ap (λ d. core.Held d c.args.side) c.if-holder-client.false in
-    fails_on c.args.client c.args.how is may.there (c.go_on.ensures.on w c.args.client is s holds may.there) may.due c.fail.ensures.moved
+    fails_on c.args.client c.args.side c.args.how is holds may.there (c.go_on.ensures.on w c.args.client is s holds may.there) may.due c.fail.ensures.moved

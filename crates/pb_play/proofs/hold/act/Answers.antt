@@ -1,3 +1,5 @@
+use Rattle.std.proofs.Common.{subst, sym}
+use Rattle.pb_core.specs.Play.{IsCalling}
 use Rattle.pb_core.specs.Memory as core
 use Rattle.pb_core.proofs.Turns.{work_suits}
 use Rattle.pb_play.proofs.Holding.{word_moves, holder_runs, call_moves, ready_at}
@@ -10,11 +12,11 @@ returns-in-NoWork-clause-moved c = λ w is s there ready.
 
 pub returns-in-Settling-clause-moved : goal.returns-in-Settling-clause-moved
 returns-in-Settling-clause-moved c = λ w is s there ready.
-    call_moves c.args.client c.args.side (holds_turn c.args.client c.args.side s.memory c.requires.holds) there (c.call.ensures.made w s (ready_at w core.Settling (works_at s.memory c.in-Settling.is) ready))
+    call_moves c.args.client c.args.side (holds_turn c.args.client c.args.side s.memory c.requires.holds) there (subst IsCalling (sym (works_at s.memory c.in-Settling.is)) tt) (c.call.ensures.made w s (ready_at w core.Settling (works_at s.memory c.in-Settling.is) ready))
 
 pub returns-in-Calling-clause-moved : goal.returns-in-Calling-clause-moved
 returns-in-Calling-clause-moved c = λ w is s there ready.
-    call_moves c.args.client c.args.side (holds_turn c.args.client c.args.side s.memory c.requires.holds) there (c.call-in-Calling.ensures.made w s (ready_at w core.Calling (works_at s.memory c.in-Calling.is) ready))
+    call_moves c.args.client c.args.side (holds_turn c.args.client c.args.side s.memory c.requires.holds) there (subst IsCalling (sym (works_at s.memory c.in-Calling.is)) tt) (c.call-in-Calling.ensures.made w s (ready_at w core.Calling (works_at s.memory c.in-Calling.is) ready))
 
 pub returns-in-Filling-clause-moved : goal.returns-in-Filling-clause-moved
 returns-in-Filling-clause-moved c = λ w is s there ready.

@@ -7,13 +7,15 @@ use Rattle.pb_object.specs.declared.request.Ask.{Ask}
 use Rattle.pb_layout.specs.Header.{record_length}
 use Rattle.pb_layout.specs.Represents.{record_in_use}
 use Rattle.pb_pair.proofs.Opened.{written_whole}
-use Rattle.pb_engine.specs.Asks.{asked_round}
+use Rattle.pb_layout.specs.Represents.{object_part}
+use Rattle.pb_core.specs.Play.{ListsRising}
+use Rattle.pb_engine.specs.Asks.{state_from, asked_round}
 use Rattle.pb_comb.specs.Serving as comb
 use Rattle.pb_queue.specs.Serving as queue
 use Rattle.pb_play.specs.Items.{ItemsFit}
 use Rattle.pb_play.specs.Rounds.{asks_of, MakesRecord}
 use Rattle.pb_play.specs.Serving.{HasServed, HoldsQueue, HasServedQueue}
-use Rattle.pb_play.proofs.NextRecords.{side_is_there, few_rounds, comb_servable, queue_servable, before_is, kind_in, size_in, object_stands, one_made, queue_region, holds_queue, queue_made, apart_map, apart_stack, apart_heap}
+use Rattle.pb_play.proofs.NextRecords.{side_is_there, few_rounds, comb_servable, queue_servable, before_is, kind_in, size_in, object_stands, one_made, queue_region, holds_queue, queue_made, apart_map, apart_stack, apart_heap, map_or_heap, stack_or_heap}
 use Rattle.pb_play.proofs.next.make_record.Goals as goal
 
 pub split_at-requires : goal.split_at-requires
@@ -57,7 +59,7 @@ returns-in-Map-clause-made c = λ s may.
     subst (λ (ls : List Line). MakesRecord lines s (asked_round s (asks_of c.args.world.now.memory)) c.args.world.now.memory.seats ls c.serve.new.seats c.args.world.now.calls.plan.items)
     (sym (written_whole c.args.world.now.next.len c.serve.new.next c.args.world.now.next.items (c.serve.ensures.next ∙ sym c.requires.next) c.args.world.now.next.ok.0))
     (one_made s c.of-2.result may no_queue is c.record-before.ensures.long c.of-2.ensures c.begin_record.ensures
-    (subst (λ (l : List Ask). HasServed head before s.state l c.begin_record.new.next c.serve.new.next c.args.world.now.memory.seats c.serve.new.seats) asks did.0) c.requires.plan)
+    (subst (λ (l : List Ask). HasServed head before s.state l c.begin_record.new.next c.serve.new.next c.args.world.now.memory.seats c.serve.new.seats) asks did.0) (λ heap. absurd (map_or_heap (sym (subst (ItemsFit head) c.in-Map.is c.requires.items).0 ∙ heap))) c.requires.plan)
 
 pub returns-in-Stack-clause-made : goal.returns-in-Stack-clause-made
 returns-in-Stack-clause-made c = λ s may.
@@ -71,7 +73,7 @@ returns-in-Stack-clause-made c = λ s may.
     subst (λ (ls : List Line). MakesRecord lines s (asked_round s (asks_of c.args.world.now.memory)) c.args.world.now.memory.seats ls c.serve-in-Stack.new.seats c.args.world.now.calls.plan.items)
     (sym (written_whole c.args.world.now.next.len c.serve-in-Stack.new.next c.args.world.now.next.items (c.serve-in-Stack.ensures.next ∙ sym c.requires.next) c.args.world.now.next.ok.0))
     (one_made s c.of-2.result may no_queue is c.record-before.ensures.long c.of-2.ensures c.begin_record.ensures
-    (subst (λ (l : List Ask). HasServed head before s.state l c.begin_record.new.next c.serve-in-Stack.new.next c.args.world.now.memory.seats c.serve-in-Stack.new.seats) asks did.0) c.requires.plan)
+    (subst (λ (l : List Ask). HasServed head before s.state l c.begin_record.new.next c.serve-in-Stack.new.next c.args.world.now.memory.seats c.serve-in-Stack.new.seats) asks did.0) (λ heap. absurd (stack_or_heap (sym (subst (ItemsFit head) c.in-Stack.is c.requires.items).0 ∙ heap))) c.requires.plan)
 
 pub returns-in-Heap-clause-made : goal.returns-in-Heap-clause-made
 returns-in-Heap-clause-made c = λ s may.
@@ -85,7 +87,7 @@ returns-in-Heap-clause-made c = λ s may.
     subst (λ (ls : List Line). MakesRecord lines s (asked_round s (asks_of c.args.world.now.memory)) c.args.world.now.memory.seats ls c.serve_heap.new.seats c.args.world.now.calls.plan.items)
     (sym (written_whole c.args.world.now.next.len c.serve_heap.new.next c.args.world.now.next.items (c.serve_heap.ensures.next ∙ sym c.requires.next) c.args.world.now.next.ok.0))
     (one_made s c.of-2.result may no_queue is c.record-before.ensures.long c.of-2.ensures c.begin_record.ensures
-    (subst (λ (l : List Ask). HasServed head before s.state l c.begin_record.new.next c.serve_heap.new.next c.args.world.now.memory.seats c.serve_heap.new.seats) asks did) c.requires.plan)
+    (subst (λ (l : List Ask). HasServed head before s.state l c.begin_record.new.next c.serve_heap.new.next c.args.world.now.memory.seats c.serve_heap.new.seats) asks did.0) (λ heap. subst (λ (l : List Ask). ListsRising (state_from s.state l) (object_part head c.serve_heap.new.next)) asks did.1) c.requires.plan)
 
 pub returns-in-Queue-clause-made : goal.returns-in-Queue-clause-made
 returns-in-Queue-clause-made c = λ s may.

@@ -1,0 +1,108 @@
+-- The calls of an engine since it was opened or made, and the device operations that each of them added.
+use Rattle.std.specs.Prelude.{◌≡◌, ℕ, suc, Bool, true, false, List, [], ◌∷◌, ◌++◌, Option, Some, None, option_map}
+use Rattle.pb_pmem.specs.declared.line.Line.{Line}
+use Rattle.pb_pmem.specs.declared.log.LogOp.{LogOp}
+use Rattle.pb_pmem.specs.Operations.{with_ops, IsFailedPrefix}
+use Rattle.pb_object.specs.History.{Round, History, state_after}
+use Rattle.pb_object.specs.Standing.{Standing}
+use Rattle.pb_layout.specs.RegionOps.{settle_to}
+use Rattle.pb_layout.specs.Represents.{header_for}
+use Rattle.pb_engine.specs.Operations.{round_ops, IsFailedRoundOps}
+use Rattle.pb_engine.specs.Outcomes.{IsNextRecordOf}
+use Rattle.pb_engine.specs.View.{FailedRound, EngineView}
+
+-- a call: a round was made, or one failed; the region was settled, or that failed
+pub data EngineCall : Type 0 where
+  Made : Round → (ops : List LogOp) → EngineCall
+  Failed : FailedRound → (ops : List LogOp) → EngineCall
+  Settled : (ops : List LogOp) → EngineCall
+  FailedSettling : (ops : List LogOp) → EngineCall
+
+-- how far calls have come: the rounds that are recorded for sure; whether nothing is in doubt and the region is settled; and the round in
+-- doubt
+pub record Progress : Type 0 where
+  pub rounds : History
+  pub sure : Bool
+  pub doubt : Option FailedRound
+
+abbrev pub progress_of : History → EngineView → Progress
+progress_of rounds engine = record { rounds = rounds; sure = engine.sure; doubt = engine.doubt }
+
+-- the rounds after settling: the one in doubt is one more where its index word was called
+abbrev pub with_doubt : Bool → History → Round → History
+with_doubt true rounds round = rounds ++ round ∷ []
+with_doubt false rounds round = rounds
+
+abbrev pub settled_rounds : History → Option FailedRound → History
+settled_rounds rounds None = rounds
+settled_rounds rounds (Some failed) = with_doubt failed.called rounds failed.round
+
+abbrev pub after_call : Progress → EngineCall → Progress
+after_call p (Made round ops) = record { rounds = p.rounds ++ round ∷ []; sure = true; doubt = None }
+after_call p (Failed failed ops) = record { rounds = p.rounds; sure = false; doubt = Some failed }
+after_call p (Settled ops) = record { rounds = settled_rounds p.rounds p.doubt; sure = true; doubt = None }
+after_call p (FailedSettling ops) = record { rounds = p.rounds; sure = false; doubt = p.doubt }
+
+abbrev pub after_calls : Progress → List EngineCall → Progress
+after_calls p [] = p
+after_calls p (call ∷ calls) = after_calls (after_call p call) calls
+
+-- the operations of a round on a standing: those for some record that carries its side's next round number
+pub record IsRoundOps (s : Standing) (round : Round) (ops : List LogOp) : Type 0 where
+  pub engine : EngineView
+  pub standing : engine.standing ≡ s
+  pub lines : List Line
+  pub record_is : IsNextRecordOf engine round lines
+  pub ops_are : ops ≡ round_ops engine round lines
+
+-- .. or the first of them, up to a call of the device that failed
+pub record IsCutRoundOps (s : Standing) (failed : FailedRound) (ops : List LogOp) : Type 0 where
+  pub engine : EngineView
+  pub standing : engine.standing ≡ s
+  pub lines : List Line
+  pub record_is : IsNextRecordOf engine failed.round lines
+  pub cut : IsFailedRoundOps engine failed.round lines failed.called ops
+
+-- the operations that settle the region where calls have come so far
+abbrev pub settling_ops : Standing → Progress → List LogOp
+settling_ops s p = settle_to (header_for (state_after s (settled_rounds p.rounds p.doubt))) (state_after s (settled_rounds p.rounds p.doubt))
+
+-- a round is asked of an engine that is sure, and settling of one that isn't
+abbrev pub IsCall : Standing → Progress → EngineCall → Type 0
+IsCall s p (Made round ops) = (p.sure ≡ true) × IsRoundOps (state_after s p.rounds) round ops
+IsCall s p (Failed failed ops) = (p.sure ≡ true) × IsCutRoundOps (state_after s p.rounds) failed ops
+IsCall s p (Settled ops) = (p.sure ≡ false) × (ops ≡ settling_ops s p)
+IsCall s p (FailedSettling ops) = (p.sure ≡ false) × IsFailedPrefix (settling_ops s p) ops
+
+-- calls one after the other
+abbrev pub AreCalls : Standing → Progress → List EngineCall → Type 0
+AreCalls s p [] = Unit {0}
+AreCalls s p (call ∷ calls) = IsCall s p call × AreCalls s (after_call p call) calls
+
+abbrev pub ops_of : EngineCall → List LogOp
+ops_of (Made round ops) = ops
+ops_of (Failed failed ops) = ops
+ops_of (Settled ops) = ops
+ops_of (FailedSettling ops) = ops
+
+abbrev pub all_ops : List EngineCall → List LogOp
+all_ops [] = []
+all_ops (call ∷ calls) = ops_of call ++ all_ops calls
+
+-- how many of them failed
+abbrev pub failure_count : List EngineCall → ℕ
+failure_count [] = 0
+failure_count (Made round ops ∷ calls) = failure_count calls
+failure_count (Failed failed ops ∷ calls) = suc (failure_count calls)
+failure_count (Settled ops ∷ calls) = failure_count calls
+failure_count (FailedSettling ops ∷ calls) = suc (failure_count calls)
+
+-- From the start an engine has come to what it is by these calls alone: they recorded these rounds, and so many of them failed. Where none
+-- was made it is as it was
+pub record HasCalled (start now : EngineView) (rounds : History) (failures : ℕ) : Type 0 where
+  pub calls : List EngineCall
+  pub are : AreCalls start.standing (progress_of [] start) calls
+  pub come : after_calls (progress_of [] start) calls ≡ progress_of rounds now
+  pub failed : failure_count calls ≡ failures
+  pub told : now.device.told ≡ option_map (with_ops (all_ops calls)) start.device.told
+  pub idle : calls ≡ [] → now ≡ start
