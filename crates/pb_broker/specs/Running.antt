@@ -74,8 +74,8 @@ AreAround s known told members =
     ⊎ ((round : Round) × ((told ≡ known) ⊎ (told ≡ known ++ round ∷ [])) × (members ≡ either_state (state_after s known) round))
 
 -- What the operations of a run are: those of calls of an engine that was sure, one after the other: of rounds that were made or failed, and
--- of settlings that were made or failed, each of what is in doubt then. They recorded the rounds that are known for sure, and each line in doubt has the
--- one call that failed in its worker's hands
+-- of settlings that were made or failed, each of what is in doubt then. They recorded the rounds that are known for sure, and as many of
+-- them failed as lines are in doubt
 pub record IsWork (s : Standing) (known : History) (list : List Outcome) (ops : List LogOp) : Type 0 where
   pub calls : List EngineCall
   pub are : AreCalls s (record { rounds = []; sure = true; doubt = None }) calls
