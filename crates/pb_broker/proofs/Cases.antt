@@ -31,6 +31,14 @@ pub record RanOn (call : Call) (asks : List Ask) (list : List Outcome) : Type 0 
   pub stands : DeviceRepresents standing call.before
   pub run : IsRun standing (settle_to (header_for standing) standing) HasSome asks list call.before call.after
 
+-- no request was run
+abbrev pub IsIdle : Ending → Type 0
+IsIdle ending = (asks : List Ask) (list : List Outcome) → HasRequests ending asks list → ⊥
+
+-- .. and these are none
+abbrev pub AreNoneWhereIdle : Ending → List Ask → List Outcome → Type 0
+AreNoneWhereIdle ending asks list = IsIdle ending → (asks ≡ []) × (list ≡ [])
+
 -- a region was made and requests were run on it, none where memory ran out; or making it failed
 pub record Made (command : Option Command) (call : Call) (ending : Ending) : Type 0 where
   pub head : Header
@@ -38,6 +46,7 @@ pub record Made (command : Option Command) (call : Call) (ending : Ending) : Typ
   pub asks : List Ask
   pub list : List Outcome
   pub tells : TellsNoOther ending asks list
+  pub idle : AreNoneWhereIdle ending asks list
   pub serves : ServesMade head call.before call.after asks list
 
 pub record FailedToMake (command : Option Command) (call : Call) : Type 0 where
@@ -50,11 +59,8 @@ pub record Ran (call : Call) (ending : Ending) : Type 0 where
   pub asks : List Ask
   pub list : List Outcome
   pub tells : TellsNoOther ending asks list
+  pub idle : AreNoneWhereIdle ending asks list
   pub serves : RanOn call asks list
-
--- no request was run
-abbrev pub IsIdle : Ending → Type 0
-IsIdle ending = (asks : List Ask) (list : List Outcome) → HasRequests ending asks list → ⊥
 
 pub data Case (command : Option Command) (call : Call) (ending : Ending) : Type 0 where
   same : call.after.told ≡ call.before.told → IsIdle ending → Case command call ending
@@ -72,7 +78,7 @@ stops {command} {call} stop is = same (same_told call is) (λ asks list never. n
 
 fresh_case : (head : Header) (call : Call) (ending : Ending) → Comes (Some (Fresh head.kind head.clients head.size)) call ending → Case (Some (Fresh head.kind head.clients head.size)) call ending
 fresh_case head call (Stopped Memory) (inl comes) = stops Memory comes.1
-fresh_case head call (Stopped Memory) (inr comes) = made (record { head = head; is = refl; asks = []; list = []; tells = λ its_asks its_list never. absurd never; serves = comes.1 })
+fresh_case head call (Stopped Memory) (inr comes) = made (record { head = head; is = refl; asks = []; list = []; tells = λ its_asks its_list never. absurd never; idle = λ idle. (refl, refl); serves = comes.1 })
 fresh_case head call (Stopped Usage) comes = absurd comes.0
 fresh_case head call (Stopped ReadFault) comes = stops ReadFault comes.1
 fresh_case head call (Stopped Long) comes = stops Long comes.1
@@ -82,14 +88,14 @@ fresh_case head call (Stopped FailedDevice) comes = failed (record { head = head
 fresh_case head call (Stopped Taken) comes = stops Taken comes.2
 fresh_case head call (Stopped NoRegion) comes = absurd comes.0
 fresh_case head call (Stopped (Damaged line)) comes = absurd comes.0
-fresh_case head call (Served asks list) comes = made (record { head = head; is = refl; asks = asks; list = list; tells = λ its_asks its_list has. (sym has.0, sym has.1); serves = comes.made })
+fresh_case head call (Served asks list) comes = made (record { head = head; is = refl; asks = asks; list = list; tells = λ its_asks its_list has. (sym has.0, sym has.1); idle = λ idle. absurd (idle asks list (refl, refl)); serves = comes.made })
 fresh_case head call (Drilled asks list versions) comes = absurd comes
 fresh_case head call (Reported s) comes = absurd comes
 fresh_case head call (Replayed answers s) comes = absurd comes
 
 run_case : (call : Call) (ending : Ending) → Comes (Some Run) call ending → Case (Some Run) call ending
 run_case call (Stopped Memory) (inl comes) = stops Memory comes.1
-run_case call (Stopped Memory) (inr settled) = ran (record { asks = []; list = []; tells = λ its_asks its_list never. absurd never; serves = record { standing = settled.standing; stands = settled.stands; run = settled.run } })
+run_case call (Stopped Memory) (inr settled) = ran (record { asks = []; list = []; tells = λ its_asks its_list never. absurd never; idle = λ idle. (refl, refl); serves = record { standing = settled.standing; stands = settled.stands; run = settled.run } })
 run_case call (Stopped Usage) comes = absurd comes.0
 run_case call (Stopped ReadFault) comes = stops ReadFault comes.1
 run_case call (Stopped Long) comes = stops Long comes.1
@@ -100,7 +106,7 @@ run_case call (Stopped FailedDevice) comes =
 run_case call (Stopped Taken) comes = absurd comes.0
 run_case call (Stopped NoRegion) comes = stops NoRegion comes.2
 run_case call (Stopped (Damaged line)) comes = stops (Damaged line) comes.2
-run_case call (Served asks list) comes = ran (record { asks = asks; list = list; tells = λ its_asks its_list has. (sym has.0, sym has.1); serves = record { standing = comes.standing; stands = comes.stands; run = comes.run } })
+run_case call (Served asks list) comes = ran (record { asks = asks; list = list; tells = λ its_asks its_list has. (sym has.0, sym has.1); idle = λ idle. absurd (idle asks list (refl, refl)); serves = record { standing = comes.standing; stands = comes.stands; run = comes.run } })
 run_case call (Drilled asks list versions) comes = absurd comes
 run_case call (Reported s) comes = absurd comes
 run_case call (Replayed answers s) comes = absurd comes
@@ -131,7 +137,7 @@ replay_case kind clients size call (Replayed answers s) comes = same (same_told 
 
 drill_memory : (seed clients count : ℕ) (call : Call) → (call.after ≡ call.before) ⊎ ServesMade (drill_head clients) call.before call.after [] [] → Case (Some (Drill seed clients count)) call (Stopped Memory)
 drill_memory seed clients count call (inl is) = stops Memory is
-drill_memory seed clients count call (inr made_is) = made (record { head = drill_head clients; is = refl; asks = []; list = []; tells = λ its_asks its_list never. absurd never; serves = made_is })
+drill_memory seed clients count call (inr made_is) = made (record { head = drill_head clients; is = refl; asks = []; list = []; tells = λ its_asks its_list never. absurd never; idle = λ idle. (refl, refl); serves = made_is })
 
 -- a drill makes a region as `fresh` does
 drill_case : (seed clients count : ℕ) (call : Call) (ending : Ending) → Comes (Some (Drill seed clients count)) call ending → Case (Some (Drill seed clients count)) call ending
@@ -147,7 +153,7 @@ drill_case seed clients count call (Stopped NoRegion) comes = absurd comes.1
 drill_case seed clients count call (Stopped (Damaged line)) comes = absurd comes.1
 drill_case seed clients count call (Served asks list) comes = absurd comes.1
 drill_case seed clients count call (Drilled asks list versions) comes =
-    made (record { head = drill_head clients; is = refl; asks = asks; list = list; tells = λ its_asks its_list has. (sym has.0, sym has.1); serves = comes.1.made })
+    made (record { head = drill_head clients; is = refl; asks = asks; list = list; tells = λ its_asks its_list has. (sym has.0, sym has.1); idle = λ idle. absurd (idle asks list (refl, refl)); serves = comes.1.made })
 drill_case seed clients count call (Reported s) comes = absurd comes.1
 drill_case seed clients count call (Replayed answers s) comes = absurd comes.1
 

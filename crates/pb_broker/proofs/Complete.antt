@@ -22,7 +22,6 @@ use Rattle.pb_script.specs.Script.{IsScript, IsRefused}
 use Rattle.pb_script.specs.Words.{lines}
 use Rattle.pb_script.proofs.Steps.{IsScript_front}
 use Rattle.pb_replay.specs.Replay.{HasTooManyEvents, HasBadEvent}
-use Rattle.pb_replay.proofs.OneReplay.{replayed_or_bad}
 use Rattle.pb_broker.specs.declared.source.TheConstants.{SOURCE_LIMIT}
 use Rattle.pb_broker.specs.declared.status.Status.{Status}
 use Rattle.pb_broker.specs.declared.stop.Stop.TheVariants.{Memory, Usage, ReadFault, Long, Many, Line as BadLine, DeviceFault, Taken, NoRegion, Damaged}
@@ -185,10 +184,10 @@ replay_well : (head : Header) (call : Call) (out : Stream) (ending : Ending) (st
 replay_well head call out (Stopped Memory) status tells calm comes is = inr (inr is)
 replay_well head call out (Stopped Usage) status tells calm comes is = absurd comes
 replay_well head call out (Stopped ReadFault) status tells calm comes is = absurd (calm.reads comes.1)
-replay_well head call out (Stopped Long) status (answers, s, tells) calm comes is = absurd (omega (arith, tells.holds.0, long_consumed tells.told comes))
-replay_well head call out (Stopped Many) status (answers, s, tells) calm comes is = absurd (omega (arith, tells.holds.1.few, (of_bytes HasTooManyEvents tells.told comes).1))
-replay_well head call out (Stopped (BadLine number)) status (answers, s, tells) calm comes is =
-    absurd (replayed_or_bad head tells.bytes answers s number tells.holds.1 (of_bytes (HasBadEvent head number) tells.told comes).1)
+replay_well head call out (Stopped Long) status tells calm comes is = absurd (omega (arith, tells.holds.0, long_consumed tells.told comes))
+replay_well head call out (Stopped Many) status tells calm comes is = absurd (omega (arith, tells.holds.1.few, (of_bytes HasTooManyEvents tells.told comes).1))
+replay_well head call out (Stopped (BadLine number)) status tells calm comes is =
+    absurd (tells.holds.1.possible number (of_bytes (HasBadEvent head number) tells.told comes).1)
 replay_well head call out (Stopped DeviceFault) status tells calm comes is = absurd comes
 replay_well head call out (Stopped Taken) status tells calm comes is = absurd comes
 replay_well head call out (Stopped NoRegion) status tells calm comes is = absurd comes

@@ -171,7 +171,7 @@ module _ (Holds : History → Type 0) (s : Standing) (before : Point) (called : 
   grows history members t left =
       subst (λ (a : Tale). length before.tale.log ≤ length a.log) (after_is before.tale called.after t [] history members called.call.after called.ends left) (omega (arith, length-append before.tale.log left.ops))
 
-  log_grows : length before.tale.log ≤ length called.after.log
+  pub log_grows : length before.tale.log ≤ length called.after.log
   log_grows = elim (case_of (command_of called.words) called.call called.answered.ending called.answered.comes) [
     | same stays idle ↦ subst (λ (a : Tale). length before.tale.log ≤ length a.log) (same_tale before called stays) (omega arith)
     | made was ↦ absurd (no_region_found before called s is was.serves.none)
@@ -185,7 +185,7 @@ module _ (Holds : History → Type 0) (s : Standing) (before : Point) (called : 
     | cut was idle ↦ grows [] is.region.ready.0 was.standing (was.left before.tale is.region.ready.0 called.begins is.region.ready.1)
   ]
 
-  held_call : (moment : ℕ) → length before.tale.log ≤ moment → moment ≤ length called.after.log → IsHeldAt Holds s before called moment
+  pub held_call : (moment : ℕ) → length before.tale.log ≤ moment → moment ≤ length called.after.log → IsHeldAt Holds s before called moment
   held_call moment low high = elim (case_of (command_of called.words) called.call called.answered.ending called.answered.comes) [
     | same stays idle ↦ held_same stays moment low
     | made was ↦ absurd (no_region_found before called s is was.serves.none)

@@ -17,6 +17,7 @@ pub mod NotOpened
 pub mod Points
 pub mod Printing
 pub mod Ran
+pub mod Recovering
 pub mod Replied
 pub mod Said
 pub mod Steps

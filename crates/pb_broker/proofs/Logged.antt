@@ -7,7 +7,7 @@ use Rattle.pb_pmem.specs.declared.log.LogOp.{LogOp}
 use Rattle.pb_pmem.specs.Device.{Tale}
 use Rattle.pb_pmem.specs.Operations.{with_ops}
 use Rattle.pb_object.specs.declared.request.Ask.{Ask}
-use Rattle.pb_object.specs.History.{Entry, Round, History, IsLegalRound, state_after}
+use Rattle.pb_object.specs.History.{Entry, Round, History, IsLegal, IsLegalRound, state_after}
 use Rattle.pb_object.specs.Standing.{Standing}
 use Rattle.pb_layout.specs.Doubt.{either_state, IsRoundInDoubt, HasRoundLanded}
 use Rattle.pb_layout.specs.Exits.{HasOneUnsealedAtMost}
@@ -22,7 +22,7 @@ use Rattle.pb_report.specs.declared.outcome.Outcome.{Outcome}
 use Rattle.pb_report.specs.Outcomes.{Outcomes, HasEntry, entry_of}
 use Rattle.pb_run.specs.Run.{HasRun, is_doubt, AreNewRecorded}
 use Rattle.pb_broker.proofs.Counts.{fences_counted, syncs_counted}
-use Rattle.pb_broker.specs.Running.{Explains, NoneInDoubt, IsCalmRun, IsWork, IsLogged}
+use Rattle.pb_broker.specs.Running.{Explains, NoneInDoubt, AreAround, AreAroundDoubt, IsCalmRun, IsWork, IsLogged}
 
 -- Rounds by their places
 
@@ -127,6 +127,39 @@ rounds_explain {first} {start} {now} {asks} {list} since = record {
   few = omega (arith, since.run.few, rounds_most since.run.rounds now.doubt);
 }
 
+-- so do the rounds after settling, which are legal
+settled_explain : {first start now : EngineView} {asks : List Ask} {list : List Outcome} (since : IsRunSince first start asks now list) (settled : History) → settled_rounds since.run.rounds now.doubt ≡ settled → IsLegal first.standing settled → Explains (settled_rounds since.run.rounds now.doubt) first.standing asks list
+settled_explain {first} {start} {now} {asks} {list} since settled is legal = record {
+  legal = subst (IsLegal first.standing) (sym is) legal;
+  outcomes = subst (λ (s : Standing). Outcomes s (settled_rounds since.run.rounds now.doubt) asks list) since.same since.run.settled;
+  few = since.run.few;
+}
+
+-- no round whose index word was called is in doubt
+
+uncalled_adds_none : (rounds : History) (called : Bool) (round : Round) → called ≡ false → with_doubt called rounds round ≡ rounds
+uncalled_adds_none rounds true round is = absurd (cc (is))
+uncalled_adds_none rounds false round is = refl
+
+settled_same : (rounds : History) (doubt : Option FailedRound) → was_called doubt ≡ false → settled_rounds rounds doubt ≡ rounds
+settled_same rounds None quiet = refl
+settled_same rounds (Some failed) quiet = uncalled_adds_none rounds failed.called failed.round quiet
+
+around_uncalled : (s : Standing) (known : History) (called : Bool) (round : Round) (told : History) (members : List (Option Standing)) → called ≡ false → told ≡ known → members ≡ Some (state_after s known) ∷ [] → AreAroundDoubt s known called round told members
+around_uncalled s known true round told members is all alone = absurd (cc (is))
+around_uncalled s known false round told members is all alone = (all, alone)
+
+around_known : (s : Standing) (known : History) (doubt : Option FailedRound) (told : History) (members : List (Option Standing)) → was_called doubt ≡ false → told ≡ known → members ≡ Some (state_after s known) ∷ [] → AreAround s known doubt told members
+around_known s known None told members quiet all alone = (all, alone)
+around_known s known (Some failed) told members quiet all alone = around_uncalled s known failed.called failed.round told members quiet all alone
+
+-- .. or this one is
+
+around_doubt : (s : Standing) (known : History) (doubt : Option FailedRound) (failed : FailedRound) (told : History) (members : List (Option Standing)) → doubt ≡ Some failed → failed.called ≡ true → (told ≡ known) ⊎ (told ≡ known ++ failed.round ∷ []) → members ≡ either_state (state_after s known) failed.round → AreAround s known doubt told members
+around_doubt s known doubt failed told members is called found either =
+    subst (λ (d : Option FailedRound). AreAround s known d told members) (sym is)
+    (subst (λ (b : Bool). AreAroundDoubt s known b failed.round told members) (sym called) (found, either))
+
 -- so do these and the one in doubt
 with_doubt_explain : {first start now : EngineView} {asks : List Ask} {list : List Outcome} (since : IsRunSince first start asks now list) (failed : FailedRound) → now.doubt ≡ Some failed → failed.called ≡ true → IsLegalRound (state_after first.standing since.run.rounds) failed.round → Explains (since.run.rounds ++ failed.round ∷ []) first.standing asks list
 with_doubt_explain {first} {start} {now} {asks} {list} since failed is called legal = record {
@@ -154,12 +187,13 @@ settled_with {first} {start} {now} since tale history left told sealed are calm 
     }
 
 -- its operations are those of the engine's calls
-worked : {first start now : EngineView} {asks : List Ask} {list : List Outcome} (since : IsRunSince first start asks now list) (tale : Tale) (ops : List LogOp) → first.device.told ≡ Some tale → now.device.told ≡ Some (with_ops ops tale) → IsWork first.standing since.run.rounds list ops
+worked : {first start now : EngineView} {asks : List Ask} {list : List Outcome} (since : IsRunSince first start asks now list) (tale : Tale) (ops : List LogOp) → first.device.told ≡ Some tale → now.device.told ≡ Some (with_ops ops tale) → IsWork first.standing since.run.rounds now.doubt list ops
 worked {first} {start} {now} {asks} {list} since tale ops told left = record {
   calls = called.calls;
   are = subst (λ (p : Progress). AreCalls first.standing p called.calls) begun called.are;
   ops_are = same_ops tale now.device.told ops (all_ops called.calls) left (called.told ∙ ap (option_map (with_ops (all_ops called.calls))) told);
-  recorded = ap (λ (p : Progress). p.rounds) (ap (λ (p : Progress). after_calls p called.calls) (sym begun) ∙ called.come);
+  sure = now.sure;
+  come = ap (λ (p : Progress). after_calls p called.calls) (sym begun) ∙ called.come;
   failed = called.failed;
 }
   where
@@ -170,31 +204,35 @@ worked {first} {start} {now} {asks} {list} since tale ops told left = record {
     begun = λ i. record { rounds = []; sure = since.first_sure i; doubt = since.first_decided i }
 
 -- the rounds are told and sealed
-logged_sealed : {first start now : EngineView} {asks : List Ask} {list : List Outcome} (since : IsRunSince first start asks now list) (tale : Tale) → first.device.told ≡ Some tale → IsSealedAfter tale now.device first.standing since.run.rounds → IsLogged since.run.rounds first.standing [] asks list tale now.device
-logged_sealed {first} {start} {now} {asks} {list} since tale told after = record {
+logged_sealed : {first start now : EngineView} {asks : List Ask} {list : List Outcome} (since : IsRunSince first start asks now list) (tale : Tale) → first.device.told ≡ Some tale → was_called now.doubt ≡ false → IsSealedAfter tale now.device first.standing since.run.rounds → IsLogged since.run.rounds first.standing [] asks list tale now.device
+logged_sealed {first} {start} {now} {asks} {list} since tale told quiet after = record {
   history = after.history;
   members = Some (state_after first.standing since.run.rounds) ∷ [];
   left = after.left;
   more = after.left.ops;
   parts = refl;
+  doubt = now.doubt;
   work = worked since tale after.left.ops told after.left.told;
-  around = inl (after.rounds_are, refl);
+  around = around_known first.standing since.run.rounds now.doubt (rounds_in after.history) (Some (state_after first.standing since.run.rounds) ∷ []) quiet after.rounds_are refl;
   explained = subst (λ (h : History). Explains h first.standing asks list) (sym after.rounds_are) (rounds_explain since);
+  settled = settled_explain since since.run.rounds (settled_same since.run.rounds now.doubt quiet) since.come.legal;
   new_sealed = first_sealed since.run.rounds after.history [] asks list (after.rounds_are ∙ sym (append-nil since.run.rounds)) (λ place inside. sealed_by_place after.history place after.sealed (omega (arith, inside, as_many after.history, ap length after.rounds_are))) since.run.recorded;
   calm = settled_with since tale after.history after.left told after.sealed after.rounds_are;
 }
 
 -- nothing was settled yet, and no request was served
-logged_found : {first start now : EngineView} {asks : List Ask} {list : List Outcome} (since : IsRunSince first start asks now list) (tale : Tale) → first.device.told ≡ Some tale → now.sure ≡ false → since.run.rounds ≡ [] → IsStillFound tale (Some first.standing ∷ []) now.device first.standing → IsLogged since.run.rounds first.standing [] asks list tale now.device
-logged_found {first} {start} {now} {asks} {list} since tale told unsure none still = record {
+logged_found : {first start now : EngineView} {asks : List Ask} {list : List Outcome} (since : IsRunSince first start asks now list) (tale : Tale) → first.device.told ≡ Some tale → was_called now.doubt ≡ false → now.sure ≡ false → since.run.rounds ≡ [] → IsStillFound tale (Some first.standing ∷ []) now.device first.standing → IsLogged since.run.rounds first.standing [] asks list tale now.device
+logged_found {first} {start} {now} {asks} {list} since tale told quiet unsure none still = record {
   history = [];
   members = Some first.standing ∷ [];
   left = still.left;
   more = still.left.ops;
   parts = refl;
+  doubt = now.doubt;
   work = worked since tale still.left.ops told still.left.told;
-  around = inl (sym none, ap (λ (h : History). Some (state_after first.standing h) ∷ []) (sym none));
+  around = around_known first.standing since.run.rounds now.doubt [] (Some first.standing ∷ []) quiet (sym none) (ap (λ (h : History). Some (state_after first.standing h) ∷ []) (sym none));
   explained = subst (λ (h : History). Explains h first.standing asks list) none (rounds_explain since);
+  settled = settled_explain since since.run.rounds (settled_same since.run.rounds now.doubt quiet) since.come.legal;
   new_sealed = first_sealed [] [] [] asks list refl (λ place inside. absurd (omega (arith, inside))) (subst (λ (h : History). AreNewRecorded h (zip asks list)) none since.run.recorded);
   calm = λ calm. absurd (cc ((calm_is_sure since calm).0, unsure));
 }
@@ -208,6 +246,12 @@ logged_in_doubt {first} {start} {now} {asks} {list} since tale failed told is ca
 
     told_end : IfSome now.device.told (λ end. HasRoundLanded end.base end.log (state_after first.standing since.run.rounds) failed.round) → HasRoundLanded tale.base (tale.log ++ after.left.ops) (state_after first.standing since.run.rounds) failed.round
     told_end landed = from_told (λ (end : Tale). HasRoundLanded end.base end.log (state_after first.standing since.run.rounds) failed.round) now.device.told (with_ops after.left.ops tale) after.left.told landed
+
+    told_in_doubt : IfSome now.device.told (λ end. IsRoundInDoubt end.base end.log (state_after first.standing since.run.rounds) failed.round) → IsRoundInDoubt tale.base (tale.log ++ after.left.ops) (state_after first.standing since.run.rounds) failed.round
+    told_in_doubt still = from_told (λ (end : Tale). IsRoundInDoubt end.base end.log (state_after first.standing since.run.rounds) failed.round) now.device.told (with_ops after.left.ops tale) after.left.told still
+
+    settles : IsLegalRound (state_after first.standing since.run.rounds) failed.round → Explains (settled_rounds since.run.rounds now.doubt) first.standing asks list
+    settles legal = settled_explain since (since.run.rounds ++ failed.round ∷ []) (with_called since.run.rounds now.doubt failed is called) (legal-push first.standing since.run.rounds failed.round since.come.legal legal)
 
     one : HasOneUnsealedAtMost after.history
     one =
@@ -224,9 +268,11 @@ logged_in_doubt {first} {start} {now} {asks} {list} since tale failed told is ca
       left = after.left;
       more = after.left.ops;
       parts = refl;
+      doubt = now.doubt;
       work = worked since tale after.left.ops told after.left.told;
-      around = inr (failed.round, inl are, refl);
+      around = around_doubt first.standing since.run.rounds now.doubt failed (rounds_in after.history) (either_state (state_after first.standing since.run.rounds) failed.round) is called (inl are) refl;
       explained = subst (λ (h : History). Explains h first.standing asks list) (sym are) (rounds_explain since);
+      settled = settles (told_in_doubt still).legal;
       new_sealed = first_sealed since.run.rounds after.history [] asks list (are ∙ sym (append-nil since.run.rounds)) (λ place inside. sealed_by_place after.history place sealed (omega (arith, inside, as_many after.history, ap length are))) since.run.recorded;
       calm = λ calm. absurd (never calm);
     }
@@ -238,9 +284,11 @@ logged_in_doubt {first} {start} {now} {asks} {list} since tale failed told is ca
           left = after.left;
           more = after.left.ops;
           parts = refl;
+          doubt = now.doubt;
           work = worked since tale after.left.ops told after.left.told;
-          around = inr (failed.round, inr are, refl);
+          around = around_doubt first.standing since.run.rounds now.doubt failed (rounds_in after.history) (either_state (state_after first.standing since.run.rounds) failed.round) is called (inr are) refl;
           explained = subst (λ (h : History). Explains h first.standing asks list) (sym are) (with_doubt_explain since failed is called (told_end landed).legal);
+          settled = settles (told_end landed).legal;
           new_sealed = first_sealed since.run.rounds after.history (failed.round ∷ []) asks list are (λ place inside. all_but_last after.history (length since.run.rounds) place one many inside) since.run.recorded;
           calm = λ calm. absurd (never calm);
         }
@@ -252,14 +300,14 @@ logged_since {first} {start} {now} {asks} {list} since tale begins = by_doubt no
     covered : IsCovered tale (Some first.standing ∷ []) first.standing now since.run.rounds
     covered = since.come.covered tale (Some first.standing ∷ []) begins
 
-    by_decided : IsDecidedAfter tale (Some first.standing ∷ []) now first.standing since.run.rounds → IsLogged since.run.rounds first.standing [] asks list tale now.device
-    by_decided (inl after) = logged_sealed since tale begins.told after
-    by_decided (inr (unsure, none, still)) = logged_found since tale begins.told unsure none still
+    by_decided : was_called now.doubt ≡ false → IsDecidedAfter tale (Some first.standing ∷ []) now first.standing since.run.rounds → IsLogged since.run.rounds first.standing [] asks list tale now.device
+    by_decided quiet (inl after) = logged_sealed since tale begins.told quiet after
+    by_decided quiet (inr (unsure, none, still)) = logged_found since tale begins.told quiet unsure none still
 
     by_called : (failed : FailedRound) (called : Bool) → now.doubt ≡ Some failed → failed.called ≡ called → IsLogged since.run.rounds first.standing [] asks list tale now.device
     by_called failed true is called = logged_in_doubt since tale failed begins.told is called (covered.in_doubt failed is called)
-    by_called failed false is uncalled = by_decided (covered.decided (ap was_called is ∙ uncalled))
+    by_called failed false is uncalled = by_decided (ap was_called is ∙ uncalled) (covered.decided (ap was_called is ∙ uncalled))
 
     by_doubt : (doubt : Option FailedRound) → now.doubt ≡ doubt → IsLogged since.run.rounds first.standing [] asks list tale now.device
-    by_doubt None is = by_decided (covered.decided (ap was_called is))
+    by_doubt None is = by_decided (ap was_called is) (covered.decided (ap was_called is))
     by_doubt (Some failed) is = by_called failed failed.called is refl

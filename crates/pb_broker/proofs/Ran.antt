@@ -142,10 +142,12 @@ logged_behind {known} {s} {asks} {list} {mid} {after} tale made first told inner
   members = inner.members;
   left = left;
   more = inner.more;
+  doubt = inner.doubt;
   work = inner.work;
   parts = all_ops ∙ (ap (λ (ops : List LogOp). ops ++ inner.left.ops) ops_are ∙ ap (λ (ops : List LogOp). first ++ ops) inner.parts);
   around = inner.around;
   explained = inner.explained;
+  settled = inner.settled;
   new_sealed = inner.new_sealed;
   calm = inner.calm;
 }

@@ -14,11 +14,12 @@ use Rattle.pb_object.specs.Standing.{Standing, keep, kept_list_of, newest}
 use Rattle.pb_layout.specs.LogHistory.{LoggedRound, AreUnsealed, rounds_in}
 use Rattle.pb_report.specs.declared.outcome.Outcome.{Outcome}
 use Rattle.pb_report.specs.declared.outcome.Outcome.TheVariants.{New, Kept, Old, Gap, Changed, Doubt, Left}
-use Rattle.pb_report.specs.Outcomes.{AreLeft, AreLines, IsLine, HasEntry, decided_outcome, entry_of, is_same_op, kept_with, lines_of_client, outcome_by}
+use Rattle.pb_report.specs.Outcomes.{AreLeft, AreLines, IsLine, HasEntry, Outcomes, decided_outcome, entry_of, is_same_op, kept_with, lines_of_client, outcome_by}
 use Rattle.pb_report.proofs.EntryLemmas.{IsFull, full_after, full_after_all, same_or_other}
-use Rattle.pb_broker.specs.Chain.{Point, Called, Chain, Steps, IsBehind, HasRequests, HasPrinted, PrintsReply, IsReplied}
-use Rattle.pb_broker.specs.Ending.{Ending}
+use Rattle.pb_broker.specs.Chain.{Point, Called, Chain, Steps, IsBehind, HasRequests, FollowsFrom, HasPrinted, PrintsReply, IsReplied, rounds_told}
+use Rattle.pb_broker.specs.Ending.{Ending, Stopped, Served, Drilled, Reported, Replayed}
 use Rattle.pb_broker.proofs.Applied.{AreEach, Contains-cases, Contains-first, client_of_line, found_in, keep_each, line_behind, line_of_all, line_of_client, sealed_entry}
+use Rattle.pb_broker.proofs.Behind.{rounds_are}
 use Rattle.pb_broker.proofs.Held.{IsServedIn, IsServing, Stays, held_since, same_line, served_held, serving}
 use Rattle.pb_broker.proofs.Points.{IsSound}
 use Rattle.pb_broker.proofs.Steps.{chain_sound}
@@ -147,7 +148,7 @@ reply_stays entry s first more keeps legal (inl recorded) = inl (recorded_before
 reply_stays entry s first more keeps legal (inr began) = inr began
 
 module _ (s t : Standing) (before : Point) (called : Called before.tale) (asks : List Ask) (list : List Outcome) (served : IsServedIn s t before called asks list) (kept lost : List LoggedRound) (whole : served.logged.history ≡ kept ++ lost) (unsealed : AreUnsealed lost) where
-  new_recorded : (ask : Ask) (reply : Reply) → Contains (zip asks list) (ask, New reply) → HasEntry (before.rounds ++ rounds_in kept) (entry_of ask reply)
+  pub new_recorded : (ask : Ask) (reply : Reply) → Contains (zip asks list) (ask, New reply) → HasEntry (before.rounds ++ rounds_in kept) (entry_of ask reply)
   new_recorded ask reply line =
       recorded_behind before.rounds (rounds_in kept) (entry_of ask reply)
       (sealed_entry kept lost (entry_of ask reply) unsealed (subst (λ (h : List LoggedRound). HasEntry (rounds_in (filter (λ one. one.sealed) h)) (entry_of ask reply)) whole (served.logged.new_sealed ask reply line)))
@@ -187,3 +188,24 @@ each_reply_stands before next now called ask reply count chain printed behind st
         (λ kept lost whole unsealed. printed_recorded some.s some.t before called some.asks some.list some.served kept lost whole unsealed ask printed.outcome reply line printed.prints) in
         let end = held_since (HasReply (entry_of ask reply) some.s) some.s before next now called count sound (reply_stays (entry_of ask reply) some.s) held behind steps in
         (some.s, end.1.first, end.1.now)
+
+-- The outcomes of a call
+
+requests_of : (ending : Ending) (asks other_asks : List Ask) (list other_list : List Outcome) → HasRequests ending asks list → HasRequests ending other_asks other_list → (asks ≡ other_asks) × (list ≡ other_list)
+requests_of (Stopped stop) asks other_asks list other_list has other = absurd has
+requests_of (Served a l) asks other_asks list other_list has other = (sym has.0 ∙ other.0, sym has.1 ∙ other.1)
+requests_of (Drilled a l versions) asks other_asks list other_list has other = (sym has.0 ∙ other.0, sym has.1 ∙ other.1)
+requests_of (Reported s) asks other_asks list other_list has other = absurd has
+requests_of (Replayed answers s) asks other_asks list other_list has other = absurd has
+
+pub outcomes_follow : (now : Point) (called : Called now.tale) (asks : List Ask) (list : List Outcome) → Chain now → HasRequests called.answered.ending asks list → FollowsFrom now called asks list
+outcomes_follow now called asks list chain has = go (serving now called asks list (chain_sound now chain) has)
+  where
+    go : IsServing now called → FollowsFrom now called asks list
+    go some =
+        let own = requests_of called.answered.ending some.asks asks some.list list some.ending has in
+        let told = rounds_are now.tale called.after some.t [] some.served.logged.history some.served.logged.members called.call.after called.ends some.served.logged.left in
+        let outcomes : Outcomes some.t (rounds_in some.served.logged.history) some.asks some.list = some.served.logged.explained.outcomes in
+        let from : Outcomes (state_after some.s now.rounds) (rounds_told now.tale called) some.asks some.list =
+        subst (λ (h : History). Outcomes (state_after some.s now.rounds) h some.asks some.list) (sym told) (subst (λ (t : Standing). Outcomes t (rounds_in some.served.logged.history) some.asks some.list) some.served.is outcomes) in
+        (some.s, some.served.first, subst (λ (a : List Ask). Outcomes (state_after some.s now.rounds) (rounds_told now.tale called) a list) own.0 (subst (Outcomes (state_after some.s now.rounds) (rounds_told now.tale called) some.asks) own.1 from))

@@ -1,5 +1,5 @@
 -- Each point of a chain is sound, and so is each behind a call or a crash.
-use Rattle.std.proofs.Common.{◌≡◌, ◌⊎◌, ℕ, zero, suc, ◌≤◌, List, [], ◌∷◌, ◌++◌, length, Option, Some, None, refl, sym, ap, subst, ◌∙◌, inl, inr, IfSome}
+use Rattle.std.proofs.Common.{◌≡◌, ◌⊎◌, ℕ, zero, suc, ◌≤◌, Bool, true, false, List, [], ◌∷◌, ◌++◌, length, Option, Some, None, refl, sym, ap, subst, ◌∙◌, inl, inr, IfSome}
 use Rattle.std.proofs.lemmas.Bool.{cases_eq}
 use Rattle.std.proofs.lemmas.List.{append-nil, take_all, length-replicate}
 use Rattle.pb_pmem.specs.declared.line.Line.{Line}
@@ -7,7 +7,7 @@ use Rattle.pb_pmem.specs.declared.log.LogOp.{LogOp}
 use Rattle.pb_pmem.specs.Crash.{IsCrashImage, IsCrashImageAt}
 use Rattle.pb_pmem.specs.Device.{Tale}
 use Rattle.pb_pmem.specs.Lines.{word_of}
-use Rattle.pb_object.specs.History.{History, IsLegal, state_after}
+use Rattle.pb_object.specs.History.{History, Round, IsLegal, state_after}
 use Rattle.pb_object.specs.Standing.{Standing}
 use Rattle.pb_layout.specs.Damage.{HasRegion}
 use Rattle.pb_layout.specs.declared.header.Header.{Header}
@@ -20,12 +20,12 @@ use Rattle.pb_layout.specs.ToldExits.{IsCoveredExit, IsReadyWith, contents_of}
 use Rattle.pb_layout.proofs.LegalHistories.{KeepsAll}
 use Rattle.pb_layout.proofs.OneRecovery.{has_region, represents_one}
 use Rattle.pb_layout_laws.proofs.ToldCalls.{from_told}
-use Rattle.pb_engine.specs.View.{DeviceRepresents}
+use Rattle.pb_engine.specs.View.{DeviceRepresents, FailedRound}
 use Rattle.pb_script.specs.declared.command.Command.{Command}
 use Rattle.pb_script.specs.Command.{command_of}
 use Rattle.pb_broker.specs.Comes.{SettlingIsCutOff}
 use Rattle.pb_broker.specs.Chain.{Point, Called, Step, handed, crashed, Steps, Chain, IsFound, IsHandedBack, IsReadyAgain, IsCrashed, begun_by, first_behind, rounds_behind}
-use Rattle.pb_broker.specs.Running.{AreAround}
+use Rattle.pb_broker.specs.Running.{AreAround, AreAroundDoubt}
 use Rattle.pb_broker.proofs.Behind.{no_rounds, rounds_since, rounds_are, images_at, ends_as, goes_on, after_is}
 use Rattle.pb_broker.proofs.Cases.{Made, FailedToMake, Ran, same, made, failed, ran, cut, case_of}
 use Rattle.pb_broker.proofs.Points.{HasNone, IsSomeOf, AnyRounds, IsPrefixIn, IsRegion, IsRegionPoint, IsBarePoint, IsSound, bare_contents, bare_images, lines_with, lines_without, legal_front, legal_behind, sound_ready, start_sound}
@@ -62,7 +62,7 @@ some_tale is = cc (is)
 pub lines_before : (before : Point) (called : Called before.tale) → called.call.before.now ≡ Some (contents_of before.tale)
 lines_before before called = from_told (λ (t : Tale). called.call.before.now ≡ Some (contents_of t)) called.call.before.told before.tale called.begins called.replay
 
-if_lines : (P : List Line → Type 0) (now : Option (List Line)) (lines : List Line) → now ≡ Some lines → IfSome now P → P lines
+pub if_lines : (P : List Line → Type 0) (now : Option (List Line)) (lines : List Line) → now ≡ Some lines → IfSome now P → P lines
 if_lines P now lines is holds = subst (λ (o : Option (List Line)). IfSome o P) is holds
 
 -- Nothing was done
@@ -177,24 +177,31 @@ found_is before called s t is stands =
     represents_one (contents_of before.tale) t (state_after s before.rounds) (if_lines (λ image. Represents image t) called.call.before.now (contents_of before.tale) (lines_before before called) stands) is.region.holds
 
 -- a device that is ready with standings alone has a region
-pub around_has_region : (s : Standing) (known told : History) (members : List (Option Standing)) (tale : Tale) → AreAround s known told members → IsReadyWith members tale → HasRegion (contents_of tale)
-around_has_region s known told members tale (inl alone) ready =
-    elim (subst (λ (m : List (Option Standing)). ImageRepresentsOne (contents_of tale) m) alone.1 ready.holds) [
-      | inl stands ↦ has_region (contents_of tale) (state_after s known) stands
+alone_has_region : (s : Standing) (members : List (Option Standing)) (tale : Tale) → members ≡ Some s ∷ [] → IsReadyWith members tale → HasRegion (contents_of tale)
+alone_has_region s members tale alone ready =
+    elim (subst (λ (m : List (Option Standing)). ImageRepresentsOne (contents_of tale) m) alone ready.holds) [
+      | inl stands ↦ has_region (contents_of tale) s stands
       | inr never ↦ absurd never
     ]
-around_has_region s known told members tale (inr either) ready =
-    elim (subst (λ (m : List (Option Standing)). ImageRepresentsOne (contents_of tale) m) either.2 ready.holds) [
+
+doubt_has_region : (s : Standing) (known : History) (called : Bool) (round : Round) (told : History) (members : List (Option Standing)) (tale : Tale) → AreAroundDoubt s known called round told members → IsReadyWith members tale → HasRegion (contents_of tale)
+doubt_has_region s known false round told members tale alone ready = alone_has_region (state_after s known) members tale alone.1 ready
+doubt_has_region s known true round told members tale either ready =
+    elim (subst (λ (m : List (Option Standing)). ImageRepresentsOne (contents_of tale) m) either.1 ready.holds) [
       | inl stands ↦ has_region (contents_of tale) _ stands
       | inr rest ↦ elim rest [ inl stands ↦ has_region (contents_of tale) _ stands | inr never ↦ absurd never ]
     ]
+
+pub around_has_region : (s : Standing) (known : History) (doubt : Option FailedRound) (told : History) (members : List (Option Standing)) (tale : Tale) → AreAround s known doubt told members → IsReadyWith members tale → HasRegion (contents_of tale)
+around_has_region s known None told members tale alone ready = alone_has_region (state_after s known) members tale alone.1 ready
+around_has_region s known (Some one) told members tale around ready = doubt_has_region s known one.called one.round told members tale around ready
 
 made_sound : (before : Point) → IsSound before → (called : Called before.tale) → Made (command_of called.words) called.call called.answered.ending → IsCallSound before called
 made_sound before (inr (s, is)) called was = absurd (no_region_found before called s is was.serves.none)
 made_sound before (inl is) called was =
     let logged = was.serves.run.logged before.tale called.begins is.ready in
     bare_sound before called is was.head was.is logged.history logged.members logged.left logged.explained.legal
-    (λ none. absurd (none (around_has_region (empty_for was.head) was.serves.run.history (rounds_in logged.history) logged.members called.after logged.around
+    (λ none. absurd (none (around_has_region (empty_for was.head) was.serves.run.history logged.doubt (rounds_in logged.history) logged.members called.after logged.around
     (subst (IsReadyWith logged.members) (after_is before.tale called.after (empty_for was.head) [] logged.history logged.members called.call.after called.ends logged.left) logged.left.exit.ready))))
 
 failed_sound : (before : Point) → IsSound before → (called : Called before.tale) → FailedToMake (command_of called.words) called.call → IsCallSound before called
@@ -305,8 +312,10 @@ goes_on_behind now chain called =
     let back : IsHandedBack now called next.0 = record { tale = next.1; found = next.2 } in
     (next.0, back, sound_ready next.0 (step_sound now next.0 (chain_sound now chain) (handed called back)))
 
-pub crash_cuts : (now : Point) (called : Called now.tale) (moment : ℕ) (image : List Line) → Chain now → length now.tale.log ≤ moment → moment ≤ length called.after.log → IsCrashImageAt called.after.base called.after.log moment image → (next : Point) × IsCrashed now called moment image next
-crash_cuts now called moment image chain low high left = go ((call_sound now (chain_sound now chain) called).images moment low high image left)
+pub crash_cuts : (now : Point) (called : Called now.tale) (moment : ℕ) (image : List Line) → Chain now → length now.tale.log ≤ moment → moment ≤ length called.after.log → IsCrashImageAt called.after.base called.after.log moment image → (next : Point) × IsCrashed now called moment image next × IsReadyAgain next.tale
+crash_cuts now called moment image chain low high left =
+    let next = go ((call_sound now (chain_sound now chain) called).images moment low high image left) in
+    (next.0, next.1, sound_ready next.0 (step_sound now next.0 (chain_sound now chain) (crashed called moment image next.1)))
   where
     go : (¬ HasRegion image) ⊎ IsSomeBehind now called image → (next : Point) × IsCrashed now called moment image next
     go (inl none) = (

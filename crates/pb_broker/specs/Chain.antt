@@ -16,7 +16,7 @@ use Rattle.pb_layout.specs.Recovered.{Represents}
 use Rattle.pb_layout.specs.ToldExits.{IsReadyWith, contents_of}
 use Rattle.pb_report.specs.declared.outcome.Outcome.{Outcome}
 use Rattle.pb_report.specs.declared.outcome.Outcome.TheVariants.{New, Kept, Old}
-use Rattle.pb_report.specs.Outcomes.{HasEntry, entry_of}
+use Rattle.pb_report.specs.Outcomes.{HasEntry, Outcomes, entry_of}
 use Rattle.pb_script.specs.declared.command.Command.{Command}
 use Rattle.pb_script.specs.declared.command.Command.TheVariants.{Fresh, Drill}
 use Rattle.pb_script.specs.Command.{command_of}
@@ -147,6 +147,11 @@ abbrev pub HasRequests : Ending → List Ask → List Outcome → Type 0
 HasRequests (Served its_asks its_list) asks list = (its_asks ≡ asks) × (its_list ≡ list)
 HasRequests (Drilled its_asks its_list versions) asks list = (its_asks ≡ asks) × (its_list ≡ list)
 HasRequests _ asks list = ⊥
+
+-- the outcomes are those of a run from the standing after the chain's history, with the rounds that the call's log tells
+abbrev pub FollowsFrom : (now : Point) → Called now.tale → List Ask → List Outcome → Type 0
+FollowsFrom now called asks list =
+    (s : Standing) × (first_behind now called ≡ Some s) × Outcomes (state_after s now.rounds) (rounds_told now.tale called) asks list
 
 -- the call said so of a client's request of this number
 pub record HasSaid (ending : Ending) (client number : ℕ) : Type 0 where

@@ -15,14 +15,16 @@ use Rattle.pb_object.specs.Map.{Register, register_at}
 use Rattle.pb_object.specs.Object.{Registers, next_state, reply_of}
 use Rattle.pb_object.specs.Request.{reply}
 use Rattle.pb_object.specs.Standing.{Standing}
-use Rattle.pb_core.specs.declared.event.Stepped.{Stepped}
 use Rattle.pb_layout.specs.declared.header.Header.{Header}
 use Rattle.pb_layout.specs.Damage.{HasRegion, IsDamagedAt}
 use Rattle.pb_layout.specs.Recovered.{Represents}
 use Rattle.pb_report.specs.declared.outcome.Outcome.{Outcome}
 use Rattle.pb_script.specs.declared.command.Command.{Command}
 use Rattle.pb_script.specs.declared.command.Command.TheVariants.{Fresh, Run, Report, Replay, Drill}
-use Rattle.pb_replay.specs.Replay.{IsReplayed, HasTooManyEvents, HasBadEvent}
+use Rattle.pb_replay.specs.Replay.{HasTooManyEvents, HasBadEvent}
+use Rattle.pb_script.specs.declared.event.Repeat.{Repeat}
+use Rattle.pb_script.specs.Schedule.{HasFewEvents, IsSchedule}
+use Rattle.pb_script.specs.Words.{lines}
 use Rattle.pb_broker.specs.declared.source.TheConstants.{SOURCE_LIMIT}
 use Rattle.pb_broker.specs.declared.status.Status.{Status}
 use Rattle.pb_broker.specs.declared.status.Status.TheVariants.{Done, OutOfMemory, Misnumbered}
@@ -66,10 +68,16 @@ pub record TellsBytes (Holds : List ℕ → Type 0) (read : Stream) : Type 0 whe
 abbrev pub TellsSource : (List ℕ → Type 0) → Stream → Type 0
 TellsSource Holds read = TellsBytes (λ bytes. (length bytes ≤ SOURCE_LIMIT) × Holds bytes) read
 
--- the source tells a schedule, all of whose events can be played
+-- the bytes are a schedule that isn't too long, and no line of it is refused: each of its events can happen when its turn comes
+pub record IsPlayable (head : Header) (bytes : List ℕ) : Type 0 where
+  pub few : HasFewEvents (lines bytes)
+  pub repeats : List Repeat
+  pub schedule : IsSchedule head.kind head.clients (lines bytes) repeats
+  pub possible : (number : ℕ) → ¬ HasBadEvent head number bytes
+
+-- the source tells one
 abbrev pub TellsSchedule : Header → Stream → Type 0
-TellsSchedule head read =
-    (answers : List Stepped) × (s : Standing) × TellsSource (λ bytes. IsReplayed head bytes answers s) read
+TellsSchedule head read = TellsSource (IsPlayable head) read
 
 -- the words are a command, and source and device are as it wants them
 abbrev pub IsWellAsked : Option Command → Call → Type 0

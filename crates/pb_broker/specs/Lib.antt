@@ -3,6 +3,7 @@ pub mod Chain
 pub mod Comes
 pub mod Ending
 pub mod Laws
+pub mod Recovery
 pub mod Running
 pub mod Serving
 pub mod Source

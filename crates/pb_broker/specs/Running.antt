@@ -17,8 +17,8 @@ use Rattle.pb_layout.specs.Header.{record_length}
 use Rattle.pb_layout.specs.LogHistory.{LoggedRound, rounds_in, AreSealed}
 use Rattle.pb_layout.specs.RegionOps.{format_ops}
 use Rattle.pb_layout.specs.ToldExits.{IsCoveredExit, IsReadyWith}
-use Rattle.pb_engine.specs.Calls.{EngineCall, after_calls, AreCalls, all_ops, failure_count}
-use Rattle.pb_engine.specs.View.{DeviceRepresents}
+use Rattle.pb_engine.specs.Calls.{EngineCall, after_calls, AreCalls, all_ops, failure_count, settled_rounds}
+use Rattle.pb_engine.specs.View.{DeviceRepresents, FailedRound}
 use Rattle.pb_report.specs.declared.outcome.Outcome.{Outcome}
 use Rattle.pb_report.specs.declared.outcome.Outcome.TheVariants.{Doubt}
 use Rattle.pb_report.specs.Outcomes.{Outcomes, is_tried}
@@ -65,29 +65,34 @@ empty_record head = replicate (record_length head) zero_line
 abbrev pub making_ops : Header → List LogOp
 making_ops head = format_ops head (empty_record head) (if side_count head.kind == 2 then empty_record head else [])
 
--- What the device is ready with behind a told history, of which these rounds are known for sure: all of it is, and the device is
--- ready with the standing after them alone; or a round is in doubt behind them, which is told or isn't, and the device is ready with
--- the standings before and after that round
-abbrev pub AreAround : Standing → History → History → List (Option Standing) → Type 0
-AreAround s known told members =
-    ((told ≡ known) × (members ≡ Some (state_after s known) ∷ []))
-    ⊎ ((round : Round) × ((told ≡ known) ⊎ (told ≡ known ++ round ∷ [])) × (members ≡ either_state (state_after s known) round))
+-- What the device is ready with behind a told history, of which these rounds are known for sure. Where no round is in doubt behind them, or one
+-- whose index word was never called, all of it is known, and the device is ready with the standing after it alone. Else the round in doubt is told
+-- or isn't, and the device is ready with the standings before and after it
+abbrev pub AreAroundDoubt : Standing → History → Bool → Round → History → List (Option Standing) → Type 0
+AreAroundDoubt s known false round told members = (told ≡ known) × (members ≡ Some (state_after s known) ∷ [])
+AreAroundDoubt s known true round told members =
+    ((told ≡ known) ⊎ (told ≡ known ++ round ∷ [])) × (members ≡ either_state (state_after s known) round)
+
+abbrev pub AreAround : Standing → History → Option FailedRound → History → List (Option Standing) → Type 0
+AreAround s known None told members = (told ≡ known) × (members ≡ Some (state_after s known) ∷ [])
+AreAround s known (Some failed) told members = AreAroundDoubt s known failed.called failed.round told members
 
 -- What the operations of a run are: those of calls of an engine that was sure, one after the other: of rounds that were made or failed, and
--- of settlings that were made or failed, each of what is in doubt then. They recorded the rounds that are known for sure, and as many of
--- them failed as lines are in doubt
-pub record IsWork (s : Standing) (known : History) (list : List Outcome) (ops : List LogOp) : Type 0 where
+-- of settlings that were made or failed, each of what is in doubt then. They recorded the rounds that are known for sure, and left this one in
+-- doubt, if any; and as many of them failed as lines are in doubt
+pub record IsWork (s : Standing) (known : History) (doubt : Option FailedRound) (list : List Outcome) (ops : List LogOp) : Type 0 where
   pub calls : List EngineCall
   pub are : AreCalls s (record { rounds = []; sure = true; doubt = None }) calls
   pub ops_are : ops ≡ all_ops calls
-  pub recorded : (after_calls (record { rounds = []; sure = true; doubt = None }) calls).rounds ≡ known
+  pub sure : Bool
+  pub come : after_calls (record { rounds = []; sure = true; doubt = None }) calls ≡ record { rounds = known; sure = sure; doubt = doubt }
   pub failed : failure_count calls ≡ count_by is_doubt list
 
 -- What the log tells of a run since this moment. Its operations begin with these first ones, and are covered from s on by
 -- the history that they tell: at each moment since, each image that a crash may leave represents the state after a prefix
 -- of the rounds so far that holds each sealed one; or, until the first sync, what it might represent at the beginning.
--- That history explains the outcomes, the rounds of new requests are sealed, these rounds of it are known for sure, and the
--- device is ready with what is around them
+-- That history explains the outcomes, and so does the one that settling would make of it. The rounds of new requests are sealed, these rounds of
+-- it are known for sure, and the device is ready with what is around them
 pub record IsLogged (known : History) (s : Standing) (first : List LogOp) (asks : List Ask) (list : List Outcome) (tale : Tale)
     (after : Device) : Type 0 where
   pub history : List LoggedRound
@@ -95,9 +100,11 @@ pub record IsLogged (known : History) (s : Standing) (first : List LogOp) (asks 
   pub left : IsCoveredExit tale after s history members
   pub more : List LogOp
   pub parts : left.ops ≡ first ++ more
-  pub work : IsWork s known list more
-  pub around : AreAround s known (rounds_in history) members
+  pub doubt : Option FailedRound
+  pub work : IsWork s known doubt list more
+  pub around : AreAround s known doubt (rounds_in history) members
   pub explained : Explains (rounds_in history) s asks list
+  pub settled : Explains (settled_rounds known doubt) s asks list
   pub new_sealed : AreNewRecorded (rounds_in (filter (λ round. round.sealed) history)) (zip asks list)
   pub calm : NoneInDoubt list → IsCalmRun s history members more
 

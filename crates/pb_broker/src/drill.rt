@@ -31,7 +31,8 @@ use std::thread::Threads;
 /// Makes a region of a map on the device, runs the script on it that is made from the seed, so many requests of each client, and prints
 /// how many there were and what they came to.
 ///
-/// All memory is taken before the first request is asked for. Where no call of the device fails, the same numbers print the same text.
+/// All memory is taken before the first request is asked for. Where that is had and no call of the device fails, the same numbers print
+/// the same text.
 pub fn drill<R: Wait + Threads + Sync, K: Sink, P: Pmem + Send, G: Gate>(
     rt: &R,
     alloc: Global,

@@ -6,10 +6,13 @@ ghost use Rattle.pb_object.specs.declared.request.Op.{Op};
 ghost use Rattle.pb_object.specs.Codes.{action_of};
 ghost use Rattle.pb_object.specs.Map.{last_version, register_at};
 ghost use Rattle.pb_object.specs.Standing.{Standing};
+ghost use Rattle.pb_pmem.specs.declared.line.Line.{Line};
 ghost use Rattle.pb_layout.specs.declared.header.Header.{Header};
 ghost use Rattle.pb_layout.specs.Exits.{empty_for};
 ghost use Rattle.pb_script.specs.Command.{command_of};
+ghost use Rattle.pb_broker.specs.Recovery.{IsRegionOf};
 ghost use Rattle.pb_broker.specs.Running.{making_ops};
+ghost use Rattle.pb_layout.specs.Recovered.{Represents};
 ghost use Rattle.pb_layout.specs.RegionOps.{settle_to};
 ghost use Rattle.pb_layout.specs.Represents.{header_for};
 ghost use Rattle.pb_broker.specs.declared.status.Status.{Status};
@@ -45,6 +48,12 @@ pub fn each_cause_decides()
 pub fn each_round_is_one_fence_and_one_sync()
     ensures making { (head : Header) → CostsOneEach (empty_for head) (making_ops head) 1 1 }
     ensures settling { (s : Standing) → CostsOneEach s (settle_to (header_for s) s) 0 1 }
+{}
+
+/// What the lines of a device represent is told by the parts of a region, and by the checks that it passes: it is the same.
+pub fn a_region_is_its_parts()
+    ensures passes { (image : List Line) (s : Standing) → IsRegionOf image s → Represents image s }
+    ensures parts { (image : List Line) (s : Standing) → Represents image s → IsRegionOf image s }
 {}
 
 /// A get answers the last put of its register, whatever was done to other registers since then.

@@ -4,6 +4,7 @@ ghost use Rattle.pb_script.specs.Command.{texts};
 ghost use Rattle.pb_report.specs.OutcomeText.{outcomes_text};
 ghost use Rattle.pb_broker.specs.declared.stop.Stop.TheVariants.{Usage};
 ghost use Rattle.pb_broker.specs.Call.{Call, IsSaid};
+ghost use Rattle.pb_broker.specs.Recovery.{IsRecoverable};
 ghost use Rattle.pb_broker.specs.Texts.{run_status, stop_status, stop_text};
 ghost use Rattle.pb_broker.specs.Top.{IsAnswered};
 ghost use Rattle.pb_broker.specs.Stream.{stream};
@@ -62,7 +63,9 @@ pub fn top<R: Wait + Threads + Sync, S: Source, K: Sink, P: Pmem + Send, G: Gate
     device: P,
     gate: &G,
 ) -> Done<P>
-    ensures { let call : Call = record {
+    ensures recovers { let out = stream (K.bytes sink.old) (K.bytes sink.new) (K.fault_count sink.old) (K.fault_count sink.new) in
+        IsRecoverable (texts words.now) (P.seen device) (P.seen result.device) out }
+    ensures answered { let call : Call = record {
       read = stream (S.rest source.old) (S.rest source.new) (S.fault_count source.old) (S.fault_count source.new);
       before = P.seen device;
       after = P.seen result.device;

@@ -1,32 +1,38 @@
-//! What one client learns of its requests, over many calls: each number is used once, and the last eight are kept.
+//! What clients learn of their requests, over many calls: each number is used once, and the last eight are kept.
 use crate::plain::{Form, Plain, Wish, apply, contents, empty, wish_text};
 use std::alloc::Global;
 use std::process::Abort;
 use std::sync::Wait;
 use std::thread::Threads;
 
-/// A client's line: its number, and what it asks for.
-pub type Line = (u64, Wish);
+/// A line: its client, its number, and what it asks for.
+pub type Line = (u32, u64, Wish);
 
-/// All requests of a client that were recorded, from number 1 on, with their replies, and the object after them.
+/// All requests that were recorded, each client's from number 1 on, in an order in which the object answered so, and the object after
+/// them.
 #[derive(Drop)]
 pub struct Asking {
-    pub wishes: Vec<Wish>,
+    pub clients: u32,
+    pub lines: Vec<Line>,
     replies: Vec<String>,
-    plain: Plain,
+    pub plain: Plain,
+    /// How many of them were recorded in the same round as one before.
+    pub joined: usize,
 }
 
-/// A client of an object of which nothing was asked.
+/// The clients of an object of which nothing was asked.
 pub fn beginning(
     rt: &(impl Abort + Wait + Threads + Sync),
     alloc: Global,
-    form: Form,
-    size: usize,
+    clients: u32,
+    (form, size): (Form, usize),
 ) -> Asking {
     Asking {
-        wishes: Vec::new(alloc),
+        clients,
+        lines: Vec::new(alloc),
         replies: Vec::new(alloc),
         plain: empty(rt, alloc, form, size),
+        joined: 0,
     }
 }
 
@@ -35,45 +41,54 @@ fn record(
     rt: &(impl Abort + Wait + Threads + Sync),
     alloc: Global,
     asking: &mut Asking,
-    wish: Wish,
+    line: Line,
 ) {
-    let reply = apply(rt, alloc, &mut asking.plain, &wish);
-    asking.wishes.push(wish).expect(rt, "memory");
+    let reply = apply(rt, alloc, &mut asking.plain, &line.2);
+    asking.lines.push(line).expect(rt, "memory");
     asking.replies.push(reply).expect(rt, "memory");
 }
 
-/// The client with its first requests alone.
+/// The clients with their first requests alone: each one's up to its number here, and all where none stands here.
 pub fn cut(
     rt: &(impl Abort + Wait + Threads + Sync),
     alloc: Global,
     asking: &Asking,
-    count: usize,
+    lasts: &[u64],
 ) -> Asking {
-    let mut less = beginning(rt, alloc, asking.plain.form, asking.plain.size);
-    for wish in asking.wishes.iter().take(count) {
-        record(rt, alloc, &mut less, *wish);
+    let object = (asking.plain.form, asking.plain.size);
+    let mut less = beginning(rt, alloc, asking.clients, object);
+    for line in asking.lines.iter() {
+        let last = lasts.get(line.0 as usize).copied();
+        if line.1 <= last.unwrap_or(u64::MAX) {
+            record(rt, alloc, &mut less, *line);
+        }
     }
+    less.joined = asking.joined;
     less
 }
 
-/// The last number.
-pub fn last(asking: &Asking) -> u64 {
-    asking.wishes.len() as u64
+/// A client's last number.
+pub fn last(asking: &Asking, client: u32) -> u64 {
+    let mut last = 0;
+    for line in asking.lines.iter() {
+        if line.0 == client {
+            last = line.1;
+        }
+    }
+    last
 }
 
-// The request of a number, with its reply.
-fn recorded<'a>(asking: &'a Asking, number: u64) -> Option<(&'a Wish, &'a String)> {
-    let mut at = 1u64;
-    for (wish, reply) in asking.wishes.iter().zip(asking.replies.iter()) {
-        if at == number {
-            return Some((wish, reply));
+/// The request of a client's number, with its reply.
+pub fn recorded<'a>(asking: &'a Asking, client: u32, number: u64) -> Option<(Wish, &'a String)> {
+    for (line, reply) in asking.lines.iter().zip(asking.replies.iter()) {
+        if line.0 == client && line.1 == number {
+            return Some((line.2, reply));
         }
-        at = at.saturating_add(1);
     }
     None
 }
 
-/// What became of a line: it went on, ended the client's run by its number or its operation, or by a failing call.
+/// What became of a line: its client went on, or ended by its number or its operation, or by a failing call.
 #[derive(Clone, Copy, PartialEq, Eq)]
 enum End {
     On,
@@ -86,10 +101,11 @@ fn outcome(
     rt: &(impl Abort + Wait + Threads + Sync),
     alloc: Global,
     asking: &mut Asking,
-    (number, wish): Line,
+    line: Line,
     fails: bool,
 ) -> (String, End) {
-    let last = last(asking);
+    let (client, number, wish) = line;
+    let last = last(asking, client);
     if number > last.saturating_add(1) {
         return (
             format!(in alloc; "gap").expect(rt, "memory"),
@@ -100,7 +116,7 @@ fn outcome(
         return (format!(in alloc; "doubt").expect(rt, "memory"), End::Doubt);
     }
     if number > last {
-        record(rt, alloc, asking, wish);
+        record(rt, alloc, asking, line);
         let reply = asking.replies.last().expect(rt, "a reply");
         return (
             format!(in alloc; "new {reply}").expect(rt, "memory"),
@@ -110,8 +126,8 @@ fn outcome(
     if number.saturating_add(8) <= last {
         return (format!(in alloc; "old").expect(rt, "memory"), End::On);
     }
-    let (kept, reply) = recorded(asking, number).expect(rt, "a kept request");
-    if *kept == wish {
+    let (kept, reply) = recorded(asking, client, number).expect(rt, "a kept request");
+    if kept == wish {
         (
             format!(in alloc; "kept {reply}").expect(rt, "memory"),
             End::On,
@@ -121,6 +137,15 @@ fn outcome(
             format!(in alloc; "changed").expect(rt, "memory"),
             End::Misnumbered,
         )
+    }
+}
+
+// How a script ended, of how it had ended so far and of what became of one more line.
+fn worse(end: End, next: End) -> End {
+    match (end, next) {
+        (End::Doubt, _) => End::Doubt,
+        (_, End::On) => end,
+        _ => next,
     }
 }
 
@@ -134,17 +159,20 @@ pub fn answered(
     failing: usize,
 ) -> (String, u8) {
     let mut text = String::new(alloc);
+    let mut ended = Vec::new(alloc);
     let mut end = End::On;
     for (place, line) in script.iter().enumerate() {
-        let said = if end == End::On {
-            let (said, next) = outcome(rt, alloc, asking, *line, place == failing);
-            end = next;
-            said
+        let (said, next) = if ended.contains(&line.0) {
+            (format!(in alloc; "left").expect(rt, "memory"), End::On)
         } else {
-            format!(in alloc; "left").expect(rt, "memory")
+            outcome(rt, alloc, asking, *line, place == failing)
         };
-        let number = line.0;
-        let whole = format!(in alloc; "0 {number} {said}\n").expect(rt, "memory");
+        if next != End::On {
+            ended.push(line.0).expect(rt, "memory");
+        }
+        end = worse(end, next);
+        let (client, number, _) = *line;
+        let whole = format!(in alloc; "{client} {number} {said}\n").expect(rt, "memory");
         text.push_str(&whole).expect(rt, "memory");
     }
     match end {
@@ -161,9 +189,9 @@ pub fn script_text(
     script: &[Line],
 ) -> String {
     let mut text = String::new(alloc);
-    for (number, wish) in script {
+    for (client, number, wish) in script {
         let wish = wish_text(rt, alloc, wish);
-        let line = format!(in alloc; "0 {number} {wish}\n").expect(rt, "memory");
+        let line = format!(in alloc; "{client} {number} {wish}\n").expect(rt, "memory");
         text.push_str(&line).expect(rt, "memory");
     }
     text
@@ -179,15 +207,15 @@ pub fn form_text(form: Form) -> &'static str {
     }
 }
 
-// The rounds: one for each request, and a queue's takes apart.
+// The rounds: one for each request that isn't joined with another, and a queue's takes apart.
 fn rounds(rt: &(impl Abort + Wait + Threads + Sync), alloc: Global, asking: &Asking) -> String {
-    let count = asking.wishes.len();
+    let count = asking.lines.len().saturating_sub(asking.joined);
     if asking.plain.form != Form::Queue {
         return format!(in alloc; "{count}").expect(rt, "memory");
     }
     let mut takes = 0usize;
-    for wish in asking.wishes.iter() {
-        if *wish == Wish::Take {
+    for line in asking.lines.iter() {
+        if line.2 == Wish::Take {
             takes = takes.saturating_add(1);
         }
     }
@@ -195,15 +223,19 @@ fn rounds(rt: &(impl Abort + Wait + Threads + Sync), alloc: Global, asking: &Ask
     format!(in alloc; "{puts} {takes}").expect(rt, "memory")
 }
 
-// The client's last request.
-fn client(rt: &(impl Abort + Wait + Threads + Sync), alloc: Global, asking: &Asking) -> String {
-    match (asking.wishes.last(), asking.replies.last()) {
-        (Some(wish), Some(reply)) => {
-            let number = last(asking);
-            let wish = wish_text(rt, alloc, wish);
-            format!(in alloc; "{number} {wish} {reply}").expect(rt, "memory")
+// A client's line in a report, where its last request is the one of this number.
+fn client_text(
+    rt: &(impl Abort + Wait + Threads + Sync),
+    alloc: Global,
+    asking: &Asking,
+    (client, number): (u32, u64),
+) -> String {
+    match recorded(asking, client, number) {
+        Some((wish, reply)) => {
+            let wish = wish_text(rt, alloc, &wish);
+            format!(in alloc; "client {client} {number} {wish} {reply}\n").expect(rt, "memory")
         }
-        _ => format!(in alloc; "none").expect(rt, "memory"),
+        None => format!(in alloc; "client {client} none\n").expect(rt, "memory"),
     }
 }
 
@@ -213,12 +245,83 @@ pub fn report_text(
     alloc: Global,
     asking: &Asking,
 ) -> String {
+    let clients = asking.clients;
     let form = form_text(asking.plain.form);
     let size = asking.plain.size;
     let rounds = rounds(rt, alloc, asking);
-    let client = client(rt, alloc, asking);
+    let mut text = format!(in alloc;
+        "kind {form}\nclients {clients}\nsize {size}\nrounds {rounds}\n"
+    ).expect(rt, "memory");
+    for client in 0..clients {
+        let line = client_text(rt, alloc, asking, (client, last(asking, client)));
+        text.push_str(&line).expect(rt, "memory");
+    }
     let contents = contents(rt, alloc, &asking.plain);
-    format!(in alloc;
-        "kind {form}\nclients 1\nsize {size}\nrounds {rounds}\nclient 0 {client}\n{contents}"
-    ).expect(rt, "memory")
+    text.push_str(&contents).expect(rt, "memory");
+    text
+}
+
+// The number of a client's last request as a report tells it: one from the first number to the second, with its reply.
+fn told_last(
+    rt: &(impl Abort + Wait + Threads + Sync),
+    alloc: Global,
+    report: &str,
+    (least, most): (&Asking, &Asking),
+    client: u32,
+) -> u64 {
+    for number in last(least, client)..=last(most, client) {
+        let line = client_text(rt, alloc, most, (client, number));
+        if report.contains(line.as_str()) {
+            return number;
+        }
+    }
+    assert!(rt; false, "client {client}: {report}");
+    0
+}
+
+/// The requests that a report tells of: at least the first ones, at most the second ones.
+pub fn told(
+    rt: &(impl Abort + Wait + Threads + Sync),
+    alloc: Global,
+    report: &str,
+    (least, most): (&Asking, &Asking),
+) -> Asking {
+    let mut lasts = Vec::new(alloc);
+    for client in 0..most.clients {
+        let last = told_last(rt, alloc, report, (least, most), client);
+        lasts.push(last).expect(rt, "memory");
+    }
+    cut(rt, alloc, most, &lasts)
+}
+
+// How many requests more one client has than before, at most.
+fn longest(before: &Asking, asking: &Asking) -> usize {
+    let mut longest = 0;
+    for client in 0..asking.clients {
+        let more = last(asking, client).saturating_sub(last(before, client));
+        longest = longest.max(more);
+    }
+    longest as usize
+}
+
+/// Whether a report is that of these requests, with some that were asked since before in one round, but never two of one client. The
+/// number of rounds since then is this, where it is known.
+pub fn is_report(
+    rt: &(impl Abort + Wait + Threads + Sync),
+    alloc: Global,
+    report: &str,
+    before: &Asking,
+    asking: &mut Asking,
+    rounds: Option<usize>,
+) -> bool {
+    let more = asking.lines.len().saturating_sub(before.lines.len());
+    let least = longest(before, asking);
+    for count in least..=more {
+        let is_count = rounds.unwrap_or(count) == count;
+        asking.joined = before.joined.saturating_add(more.saturating_sub(count));
+        if is_count && report_text(rt, alloc, asking).as_str() == report {
+            return true;
+        }
+    }
+    false
 }

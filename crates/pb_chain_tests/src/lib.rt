@@ -10,6 +10,8 @@ mod chain;
 #[cfg(test)]
 mod draws;
 #[cfg(test)]
+mod drills;
+#[cfg(test)]
 mod plain;
 #[cfg(test)]
 mod stops;

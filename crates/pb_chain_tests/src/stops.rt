@@ -54,9 +54,9 @@ fn behind(
     case: &Case,
     count: usize,
 ) -> Asking {
-    let mut all = beginning(rt, alloc, case.form, case.size);
+    let mut all = beginning(rt, alloc, 1, (case.form, case.size));
     answered(rt, alloc, &mut all, case.script, NOWHERE);
-    cut(rt, alloc, &all, count)
+    cut(rt, alloc, &all, &[count as u64])
 }
 
 // Runs the script on what a crash left, with so many of its rounds, and makes the region where there is none.
@@ -157,7 +157,7 @@ const MAP: Case<'static> = Case {
     words: "fresh map 1 4",
     form: Form::Map,
     size: 4,
-    script: &[(1, Wish::Put(3, 77)), (2, Wish::Get(3))],
+    script: &[(0, 1, Wish::Put(3, 77)), (0, 2, Wish::Get(3))],
 };
 
 #[test]
@@ -187,12 +187,12 @@ const QUEUE: Case<'static> = Case {
     form: Form::Queue,
     size: 2,
     script: &[
-        (1, Wish::Add(1)),
-        (2, Wish::Add(2)),
-        (3, Wish::Add(3)),
-        (4, Wish::Take),
-        (5, Wish::Add(4)),
-        (6, Wish::Take),
+        (0, 1, Wish::Add(1)),
+        (0, 2, Wish::Add(2)),
+        (0, 3, Wish::Add(3)),
+        (0, 4, Wish::Take),
+        (0, 5, Wish::Add(4)),
+        (0, 6, Wish::Take),
     ],
 };
 
@@ -207,7 +207,7 @@ const SHORT_QUEUE: Case<'static> = Case {
     words: "fresh queue 1 2",
     form: Form::Queue,
     size: 2,
-    script: &[(1, Wish::Add(5)), (2, Wish::Take)],
+    script: &[(0, 1, Wish::Add(5)), (0, 2, Wish::Take)],
 };
 
 #[test]

@@ -124,20 +124,23 @@ unsettled_log : (tale : Tale) (s : Standing) (rounds : History) (ahead : Option 
 unsettled_log tale s rounds ahead log same unsettled =
     subst (λ (l : List LogOp). IsUnsettled (with_log tale l) s rounds ahead) same unsettled
 
--- how far settling came
-pub settling_reached : {tale : Tale} {s : Standing} {rounds : History} {ahead : Option Round} {entry made left : List LogOp} → IsSettling tale s rounds ahead entry made left → IsUnsettled tale s rounds ahead ⊎ IsSteady tale s (rounds ++ coming ahead)
-settling_reached {tale} {s} {rounds} {ahead} {entry} {made} {left} settling = go left settling.planned
-  where
-    go : (left : List LogOp) → made ++ left ≡ settle_to (header_for (state_after s rounds)) (with_round ahead (state_after s rounds)) → IsUnsettled tale s rounds ahead ⊎ IsSteady tale s (rounds ++ coming ahead)
-    go [] planned =
-        inr (steady_at (entry ++ made) (sym settling.log) (subst (λ (ops : List LogOp). IsSteady (with_log tale (entry ++ ops)) s (rounds ++ coming ahead)) (sym planned ∙ append-nil made) (settled_after (with_log tale entry) s rounds ahead settling.begun)))
-    go (op ∷ rest) planned =
-        inl (unsettled_log tale s rounds ahead (entry ++ made) (sym settling.log) (unsettled_after (with_log tale entry) s rounds ahead made settling.begun (begun_prefix (settle_to (header_for (state_after s rounds)) (with_round ahead (state_after s rounds))) made op rest (sym planned))))
+-- a call is left: what was in doubt is so still
+pub settling_goes_on : {tale : Tale} {s : Standing} {rounds : History} {ahead : Option Round} {entry made left : List LogOp} {op : LogOp} → IsSettling tale s rounds ahead entry made (op ∷ left) → IsUnsettled tale s rounds ahead
+settling_goes_on {tale} {s} {rounds} {ahead} {entry} {made} {left} {op} settling =
+    unsettled_log tale s rounds ahead (entry ++ made) (sym settling.log) (unsettled_after (with_log tale entry) s rounds ahead made settling.begun (begun_prefix (settle_to (header_for (state_after s rounds)) (with_round ahead (state_after s rounds))) made op left (sym settling.planned)))
 
 -- all its calls are made
 pub settling_ends : {tale : Tale} {s : Standing} {rounds : History} {ahead : Option Round} {entry made : List LogOp} → IsSettling tale s rounds ahead entry made [] → IsSteady tale s (rounds ++ coming ahead)
 settling_ends {tale} {s} {rounds} {ahead} {entry} {made} settling =
     steady_at (entry ++ made) (sym settling.log) (subst (λ (ops : List LogOp). IsSteady (with_log tale (entry ++ ops)) s (rounds ++ coming ahead)) (sym settling.planned ∙ append-nil made) (settled_after (with_log tale entry) s rounds ahead settling.begun))
+
+-- how far settling came
+pub settling_reached : {tale : Tale} {s : Standing} {rounds : History} {ahead : Option Round} {entry made left : List LogOp} → IsSettling tale s rounds ahead entry made left → IsUnsettled tale s rounds ahead ⊎ IsSteady tale s (rounds ++ coming ahead)
+settling_reached {tale} {s} {rounds} {ahead} {entry} {made} {left} settling = go left settling
+  where
+    go : (left : List LogOp) → IsSettling tale s rounds ahead entry made left → IsUnsettled tale s rounds ahead ⊎ IsSteady tale s (rounds ++ coming ahead)
+    go [] settling = inr (settling_ends settling)
+    go (op ∷ left) settling = inl (settling_goes_on settling)
 
 -- one of them fails
 pub settling_fails : {tale : Tale} {s : Standing} {rounds : History} {ahead : Option Round} {entry made left : List LogOp} (how : How) (op : LogOp) → IsSettling tale s rounds ahead entry made (op ∷ left) → IsUnsettled (failed how op tale) s rounds ahead

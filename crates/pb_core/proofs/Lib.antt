@@ -12,6 +12,7 @@ pub mod Failing
 pub mod Histories
 pub mod Holding
 pub mod Lists
+pub mod Members
 pub mod MemoryRuns
 pub mod Movers
 pub mod OneFresh

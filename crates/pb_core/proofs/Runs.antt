@@ -1,11 +1,12 @@
 -- What holds of every run.
-use Rattle.std.proofs.Common.{◌≡◌, ◌⊎◌, ℕ, zero, suc, List, [], ◌∷◌, ◌++◌, Option, Some, None, ap, subst, sym, refl, ◌∙◌, inl, inr}
-use Rattle.std.proofs.lemmas.List.{append-nil, append_assoc, length-replicate}
+use Rattle.std.proofs.Common.{◌≡◌, ◌⊎◌, ℕ, zero, suc, ◌≤◌, List, [], ◌∷◌, ◌++◌, Option, Some, None, length, take, ap, subst, sym, refl, ◌∙◌, inl, inr}
+use Rattle.std.proofs.Math.Seq.{take-append_seam}
+use Rattle.std.proofs.lemmas.List.{append-nil, append_assoc, length-map, length-replicate}
 use Rattle.pb_image.specs.Picked.{picked}
 use Rattle.pb_image.proofs.Crashed.{IsCrashImageAtCut-picked}
 use Rattle.pb_pmem.specs.declared.line.Line.{Line}
 use Rattle.pb_pmem.specs.Contents.{contents}
-use Rattle.pb_pmem.specs.Crash.{IsCrashImage}
+use Rattle.pb_pmem.specs.Crash.{IsCrashImage, least_cut, greatest_cut}
 use Rattle.pb_object.specs.declared.request.Kept.{Kept}
 use Rattle.pb_pmem.specs.declared.log.LogOp.{LogOp}
 use Rattle.pb_object.specs.History.{Entry, Round, History, after_round, state_after, IsLegal}
@@ -14,7 +15,8 @@ use Rattle.pb_layout.specs.declared.header.Header.{Header}
 use Rattle.pb_layout.specs.Covers.{Covers}
 use Rattle.pb_layout.specs.Doubt.{either_state}
 use Rattle.pb_layout.specs.Exits.{IsExit, empty_for}
-use Rattle.pb_layout.specs.LogHistory.{LoggedRound, rounds_in, history_of}
+use Rattle.pb_layout.specs.LogHistory.{LoggedRound, round_of, rounds_in, AreSealed, history_of}
+use Rattle.pb_layout.specs.Ready.{IsReady}
 use Rattle.pb_layout.specs.Recovered.{Represents}
 use Rattle.pb_layout.specs.RegionOps.{format_ops}
 use Rattle.pb_layout.proofs.LegalHistories.{numbers_stand_once}
@@ -25,18 +27,20 @@ use Rattle.pb_layout_laws.proofs.ReadyWithOne.{only_member}
 use Rattle.pb_core.specs.declared.event.Event.{Event}
 use Rattle.pb_core.specs.declared.event.Event.TheVariants.{Ask as AskEvent, Step, Fail, Crash, Reopen, ReopenFail}
 use Rattle.pb_core.specs.declared.event.Stepped.{Stepped}
+use Rattle.pb_core.specs.declared.event.Stepped.TheVariants.{Went}
 use Rattle.pb_core.specs.DeviceParts.{IsSteady, IsInDoubtAfter, IsUnsettled, IsWriting, Fits, opened_state, IsWorld}
 use Rattle.pb_core.specs.Fresh.{IsFresh}
-use Rattle.pb_core.specs.Laws.{done_of, all_done, history, IsKeptBy, IsOneHistory, IsToldByLog, CanCrash}
+use Rattle.pb_core.specs.Laws.{done_of, all_done, history, IsKeptBy, IsOneHistory, IsToldByLog, members_by}
 use Rattle.pb_core.specs.Memory.{Engine, Resting, Recorded, Writing, Doubtful, Memory, coming, opened}
 use Rattle.pb_core.specs.MemoryParts.{AreAnswered}
 use Rattle.pb_core.specs.WordMoves.{WordMove, storing, announcing, looking, matching, lacking_held, lacking_free, loading_code, loading_value, loading_extra, confirming, finding_new, finding_held, taking_sure, taking_unsure, missing, passing_over, meeting, scanning_code, scanning_first, scanning_second, scanning_own, scanning_other, filling, publishing_own, publishing_others, noting, giving_up}
 use Rattle.pb_core.specs.World.{Progress, NoCall, InCall, World}
-use Rattle.pb_core.specs.WorldMoves.{Silent, begins_calls, ends_calls, begins_settling, ends_settling_none, ends_settling_round, opens, Silents, all_rounds, Moves, Next, Run}
+use Rattle.pb_core.specs.WorldMoves.{Silent, begins_calls, ends_calls, begins_settling, ends_settling_none, ends_settling_round, opens, Silents, all_rounds, Crashes, Moves, Next, Run}
 use Rattle.pb_core.proofs.Calls.{HasReached, before_it, in_doubt, behind_it, writing_reached, settling_reached}
 use Rattle.pb_core.proofs.Crashes.{IsLeft, without, with_it, left_of, all_legal, opened_memory, new_steady}
 use Rattle.pb_core.proofs.Devices.{steady_then}
 use Rattle.pb_core.proofs.Entries.{answered-more}
+use Rattle.pb_core.proofs.Members.{fits_ready}
 use Rattle.pb_core.proofs.Worlds.{keeps-event, opens_memory}
 
 -- The first world
@@ -295,18 +299,27 @@ one_history head first last events answers fresh run = record {
 
 -- What the log tells
 
+-- the first of sealed rounds are
+AreSealed-take : (count : ℕ) (rounds : List LoggedRound) → AreSealed rounds → AreSealed (take count rounds)
+AreSealed-take zero rounds sealed = tt
+AreSealed-take (suc count) [] sealed = tt
+AreSealed-take (suc count) (logged ∷ rounds) sealed =
+    (sealed.0, AreSealed-take count rounds sealed.1)
+
 -- its rounds, with a covering
 record Tells (w : World) : Type 0 where
   told : List LoggedRound
   its : told ≡ history_of w.tale.base w.tale.log 0
   covers : Covers w.tale.base w.tale.log 0 (opened_state w.memory) told
   rounds : (rounds_in told ≡ w.memory.published) ⊎ (rounds_in told ≡ w.memory.published ++ coming w.memory.ahead)
+  sealed : AreSealed (take (length w.memory.published) told)
 
 tells_steady : {w : World} {rounds : History} → IsSteady w.tale (opened_state w.memory) rounds → (rounds ≡ w.memory.published) ⊎ (rounds ≡ w.memory.published ++ coming w.memory.ahead) → Tells w
-tells_steady steady which = record {
+tells_steady {w} steady which = record {
   told = steady.history;
   its = steady.exit.covers.told;
   covers = steady.exit.covers;
+  sealed = AreSealed-take (length w.memory.published) steady.history steady.sealed;
   rounds = elim which [
     | inl same ↦ inl (steady.told ∙ same)
     | inr same ↦ inr (steady.told ∙ same)
@@ -318,6 +331,7 @@ tells_doubt {w} {round} ahead doubt = record {
   told = told;
   its = exit.covers.told;
   covers = exit.covers;
+  sealed = subst AreSealed (sym first) doubt.begun.sealed;
   rounds = elim doubt.doubt.rounds [
     | inl (none, still) ↦
         inl (rounds_in-append doubt.begun.history doubt.doubt.history ∙ ((λ i. doubt.begun.told i ++ rounds_in (none i)) ∙ append-nil w.memory.published))
@@ -331,6 +345,14 @@ tells_doubt {w} {round} ahead doubt = record {
 
     exit : IsExit w.tale.base [] w.tale.log (opened_state w.memory) told (Some (state_after (opened_state w.memory) w.memory.published) ∷ Some (after_round (state_after (opened_state w.memory) w.memory.published) round) ∷ [])
     exit = subst (λ (l : List LogOp). IsExit w.tale.base [] l (opened_state w.memory) told (either_state (state_after (opened_state w.memory) w.memory.published) round)) (sym doubt.log) (steady_then doubt.begun doubt.doubt.exit)
+
+    long : length w.memory.published ≡ length doubt.begun.history
+    long =
+        ap (λ (h : History). length h) (sym doubt.begun.told) ∙ length-map doubt.begun.history round_of
+
+    first : take (length w.memory.published) told ≡ doubt.begun.history
+    first =
+        ap (λ (n : ℕ). take n told) long ∙ take-append_seam doubt.begun.history doubt.doubt.history
 
 tells_unsettled : (w : World) (ahead : Option Round) → w.memory.ahead ≡ ahead → IsUnsettled w.tale (opened_state w.memory) w.memory.published ahead → Tells w
 tells_unsettled w None same steady = tells_steady steady (inl refl)
@@ -364,6 +386,8 @@ told_by_log {w} is = record {
   rounds = rounds;
   legal = legal rounds;
   covers = subst (Covers w.tale.base w.tale.log 0 (opened_state w.memory)) tells.its tells.covers;
+  sealed = subst (λ (l : List LoggedRound). AreSealed (take (length m.published) l)) tells.its tells.sealed;
+  ready = subst (λ (s : Standing). IsReady w.tale.base w.tale.log (members_by m.engine w.progress m.ahead s)) (sym (state_after-append m.start m.past m.published)) (fits_ready w.tale (opened_state m) m.published m.ahead m.engine w.progress is.fits);
 }
   where
     m : Memory
@@ -385,7 +409,7 @@ told_by_log {w} is = record {
 
 -- Crashes can come
 
-pub can_crash : {w : World} → IsWorld w → CanCrash w
+pub can_crash : {w : World} → IsWorld w → (cut pick : ℕ) → least_cut w.tale.log ≤ cut → cut ≤ greatest_cut w.tale.log → (new : World) × Crashes w cut pick new Went
 can_crash {w} is cut pick low high = (
   new,
   record {

@@ -288,7 +288,7 @@ keeps-opens {old} {new} is step = subst IsWorld (sym step.is) (record {
     suits : (old.memory.work ≡ NoWork) × (old.memory.engine ≡ Doubtful) × (old.memory.ahead ≡ None)
     suits = closed_suits is.memory_is step.closed
 
-keeps-silent : {old new : World} → IsWorld old → Silent old new → IsWorld new
+pub keeps-silent : {old new : World} → IsWorld old → Silent old new → IsWorld new
 keeps-silent is (begins_calls step) = keeps-begins_calls is step
 keeps-silent is (ends_calls step) = keeps-ends_calls is step
 keeps-silent is (begins_settling step) = keeps-begins_settling is step

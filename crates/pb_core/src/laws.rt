@@ -7,7 +7,7 @@ ghost use Rattle.pb_core.specs.declared.event.Stepped.{Stepped};
 ghost use Rattle.pb_core.specs.DeviceParts.{IsWorld};
 ghost use Rattle.pb_core.specs.Fresh.{IsFresh};
 ghost use Rattle.pb_core.specs.HolderMoves.{Begins};
-ghost use Rattle.pb_core.specs.Laws.{IsOneHistory, IsToldByLog, IsCaused, IsScannedRound};
+ghost use Rattle.pb_core.specs.Laws.{IsOneHistory, IsToldByLog, IsCaused, IsNoted, IsToAsker, IsScannedRound};
 ghost use Rattle.pb_core.specs.Memory.{Memory, clients_of};
 ghost use Rattle.pb_core.specs.MemoryParts.{IsMemory};
 ghost use Rattle.pb_core.specs.MemoryRun.{begun, MemoryRun};
@@ -49,8 +49,8 @@ pub fn a_scan_sees_a_legal_round()
         → IsScannedRound old client new begins }
 {}
 
-/// Over any events, in any order, with crashes anywhere: there is one legal history of the object that was formatted, no request stands in it twice, each answered request
-/// stands in it with its reply, and so it does in what each further crash may leave.
+/// Over any events, in any order, with crashes anywhere: there is one legal history of the object that was formatted, no request stands in it
+/// twice, each answered request stands in it with its reply, and so it does in what each further crash may leave, whatever its image.
 pub fn every_run_has_one_history()
     ensures { (head : Header) (first last : World) (events : List Event) (answers : List Stepped)
         → IsFresh head first
@@ -58,25 +58,41 @@ pub fn every_run_has_one_history()
         → IsOneHistory head last answers }
 {}
 
-/// That history is no record of the world's own: the device's log tells it, and covers it.
+/// Of that history the device's log tells the rounds since the region was opened last, perhaps with the one ahead, and none from before
+/// that. It covers them, those that are published are sealed, and the device is ready with what it may be found with: the standing that is
+/// known for sure; from a round's index word on, and while it is in doubt, either the one before the round or the one after it; and, once all
+/// its calls are made, the one after it.
 pub fn the_log_tells_the_history()
     ensures { (w : World) → IsWorld w → IsToldByLog w }
 {}
 
 /// Each event is possible exactly where it may be: asking for an idle client under its next number, a step for a client that isn't idle, a
-/// crash at each cut that the device's log has, and opening the region again until that is done. So no stage is stuck, and no crash that
-/// the device may meet is left out. A step that begins the calls of a round asks for lines of that round's record.
+/// failing call for the holder whose next step is one, a crash at each cut that the device's log has, with each pick, and opening the region
+/// again until that is done. So no stage is stuck. A step, or a failing call, that begins a round's calls asks for lines of that round's
+/// record. A pick names one image of a cut: none of the loose writes, all of them, or these with one number in each word of a line that was
+/// written whole. The other images that a crash may leave at a cut, as those that have a part of the loose writes, are no events: what each of
+/// them keeps is said at the end of any run, by `every_run_has_one_history`.
 pub fn events_are_possible_exactly()
     ensures { (w : World) → IsWorld w → IsExact w }
 {}
 
-/// A client that is answered without a reply is told the cause: the turn word that it met first and the one that stands now, which differ,
-/// or of which the second is of a turn that is held; or the count of faults before and after the call that failed while it held the turn.
+/// A client is answered by its own step alone, and to the request that it has announced. One that is answered without a reply is told the
+/// cause: the turn word that it met first and the one that stands now, which differ, or of which the second is of a turn that is held; or the
+/// count of faults before and after the call that failed while it held the turn. Both are noted when that call fails, by the client that
+/// holds the turn, and it holds it until it has given it up with these.
 pub fn each_answer_has_its_cause()
-    ensures { (old : World) (event : Event) (new : World) (answer : Stepped)
+    ensures asked { (old : World) (event : Event) (new : World) (answer : Stepped)
+        → IsWorld old
+        → Next old event new answer
+        → IsToAsker event answer old.memory }
+    ensures caused { (old : World) (event : Event) (new : World) (answer : Stepped)
         → IsWorld old
         → Next old event new answer
         → IsCaused answer old.memory new.memory }
+    ensures noted { (old : World) (event : Event) (new : World) (answer : Stepped)
+        → IsWorld old
+        → Next old event new answer
+        → IsNoted event old.memory new.memory }
 {}
 
 /// What is played is a run of the world: playing only takes choices that the core leaves.
@@ -86,8 +102,8 @@ pub fn what_is_played_is_a_run()
         → Run old events answers new }
 {}
 
-/// What is played is determined: the world over a region that was just formatted is one, and from any world the same events make one
-/// world, with the same answers.
+/// What is played is determined: over a region that was just formatted there is at most one world, and from any world the same events make
+/// at most one, with at most one list of answers. That there is one for each event that is possible is for the code that plays to show.
 pub fn what_is_played_is_determined()
     ensures first { (head : Header) (first other : World) → IsFresh head first → IsFresh head other → first ≡ other }
     ensures played { (old : World) (events : List Event) (answers others : List Stepped) (new other : World)

@@ -14,7 +14,8 @@ pub fn what_is_printed_is_explained()
         → IsExplained head replayed.last answers s }
 {}
 
-/// A source is replayed in one way: with one list of answers and one standing, or with one first line that is refused.
+/// A source is replayed in one way at most: with at most one list of answers and one standing, or with at most one line that is refused first,
+/// and never with both.
 pub fn a_source_has_one_replay()
     ensures replay { (head : Header) (bytes : List ℕ) (answers others : List Stepped) (s t : Standing)
         → IsReplayed head bytes answers s

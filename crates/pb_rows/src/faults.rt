@@ -1,6 +1,6 @@
 //! Runs in which a call of the device, the source or the sink fails, and the runs after them.
-use crate::rows::{FIRST, FIRST_REPORT, FRESH, NEW, Row, calls};
-use crate::run::{failing, run_into, sink, source, zeros};
+use crate::rows::{FIRST, FIRST_REPORT, FRESH, FRESH_TWO, NEW, Row, TWO, call, calls, report_two};
+use crate::run::{failing, run, run_into, sink, source, zeros};
 use pb_image::{Call, How, Image};
 use std::alloc::Global;
 use std::process::Abort;
@@ -71,6 +71,33 @@ fn of_the_device(rt: HostRuntime) {
     over(&rt, alloc, Call::Read, 1, &NOT_READ);
     over(&rt, alloc, Call::Sync, 4, &NOT_SETTLED);
     over(&rt, alloc, Call::SetWord, 10, &NOT_EXCHANGED);
+}
+
+// The sync of the first round of two clients fails: whoever had the round made is in doubt, and the other one settles it.
+const ONE_IN_DOUBT: [&str; 2] = [
+    "0 1 doubt\n1 1 new was 0 1\n",
+    "0 1 new was 0 1\n1 1 doubt\n",
+];
+
+const BOTH_KEPT: Row = ("run", TWO, "0 1 kept was 0 1\n1 1 kept was 0 1\n", 0, None);
+
+// Makes the two clients' calls: one of their requests is in doubt, and both are recorded all the same.
+fn two_of_whom_one_is_in_doubt(rt: &(impl Abort + Wait + Threads + Sync), alloc: Global) {
+    let device = failing(rt, alloc, Call::Sync, &[2], How::Left);
+    let (done, sink) = run(rt, alloc, FRESH_TWO.0, TWO, 4096, device);
+    let is_said = ONE_IN_DOUBT
+        .iter()
+        .any(|text| sink.bytes() == text.as_bytes());
+    assert!(rt; is_said && done.status.code() == 6);
+    let device = call(rt, alloc, done.device, &BOTH_KEPT);
+    report_two(rt, alloc, device);
+}
+
+#[test]
+fn of_a_device_of_two_clients(rt: HostRuntime) {
+    for _ in 0..200 {
+        two_of_whom_one_is_in_doubt(&rt, rt.alloc());
+    }
 }
 
 // The status of the first script, what it prints, and how many operations it makes, where the source fails at these reads, and the sink

@@ -1,12 +1,13 @@
 //! Sixteen clients with many requests each, in every kind.
 use crate::scripts::{Plan, script};
 use crate::session::{Ran, run};
+use crate::told::{object_gives, queue_gives, reply_of, told_by};
 use pb_comb::Comb;
 use pb_engine::Engine;
 use pb_heap::MinHeap;
 use pb_image::Image;
 use pb_map::RegMap;
-use pb_object::{Action, Answer, Object, Reply};
+use pb_object::{Action, Answer, Object};
 use pb_queue::TwinQueue;
 use pb_report::Outcome;
 use pb_stack::Stack;
@@ -17,26 +18,21 @@ use std::thread::Threads;
 
 const CLIENTS: u32 = 16;
 
-const REQUESTS: u64 = 200;
+const REQUESTS: u64 = 1000;
 
-const ALL: u64 = 3200;
+const ALL: u64 = CLIENTS as u64 * REQUESTS;
+
+// Four clients put to each register.
+const OF_A_REGISTER: u64 = ALL / 4;
 
 // Each item is below this.
-const ITEMS: usize = 3216;
+const ITEMS: usize = 16 * (REQUESTS as usize + 1);
 
-// Room for the log of all rounds.
-const ROOM: u32 = 200_000;
+// Room for the log of all rounds, also where each serves one request.
+const ROOM: u32 = 500_000;
 
 fn device(rt: &impl Abort, alloc: Global) -> Image {
     Image::zero(alloc, ROOM).expect(rt, "memory")
-}
-
-// The reply to a request that is answered.
-fn reply_of(rt: &impl Abort, outcome: &Outcome) -> Reply {
-    match outcome {
-        Outcome::New(reply) => *reply,
-        _ => panic!(rt; "each request is new"),
-    }
 }
 
 // Notes a number that may come once.
@@ -79,11 +75,28 @@ fn registers(rt: HostRuntime) {
         assert!(&rt; reply.code == Answer::Was.code());
         let version = reply.extra.saturating_sub(1);
         let number = u64::from(ask.client % 4)
-            .saturating_mul(800)
+            .saturating_mul(OF_A_REGISTER)
             .saturating_add(version);
         note(&rt, &mut seen, number);
     }
     assert!(&rt; seen.iter().all(|seen| *seen));
+    are_given(&rt, alloc, ran);
+}
+
+// What the log tells of a run over one combiner is what its object gives.
+fn are_given<O: Object>(rt: &impl Abort, alloc: Global, ran: Ran<Comb<O, Image>>) {
+    let rounds = ran.engine.rounds();
+    let head = ran.engine.header();
+    let device = ran.engine.close();
+    let history = told_by(
+        rt,
+        alloc,
+        (&head, &device),
+        rounds,
+        &ran.asks,
+        &ran.outcomes,
+    );
+    object_gives::<O>(rt, alloc, head.size, &history);
 }
 
 // Each item that was put is taken once, since nobody takes before it put.
@@ -97,7 +110,7 @@ fn are_taken_once<E: Engine>(rt: &impl Abort, alloc: Global, ran: &Ran<E>) {
             note(rt, seen.as_mut_slice(), reply.value);
         }
     }
-    assert!(rt; seen.iter().filter(|seen| **seen).count() == 1600);
+    assert!(rt; seen.iter().filter(|seen| **seen).count() as u64 == ALL / 2);
 }
 
 #[test]
@@ -108,6 +121,7 @@ fn stacks(rt: HostRuntime) {
     };
     let ran = run_crowd(&rt, alloc, engine, Plan::Items(Action::Push, Action::Pop));
     are_taken_once(&rt, alloc, &ran);
+    are_given(&rt, alloc, ran);
 }
 
 #[test]
@@ -123,6 +137,7 @@ fn heaps(rt: HostRuntime) {
         Plan::Items(Action::Insert, Action::RemoveMin),
     );
     are_taken_once(&rt, alloc, &ran);
+    are_given(&rt, alloc, ran);
 }
 
 #[test]
@@ -138,4 +153,16 @@ fn queues(rt: HostRuntime) {
         Plan::Items(Action::QueuePut, Action::QueueTake),
     );
     are_taken_once(&rt, alloc, &ran);
+    let rounds = ran.engine.rounds();
+    let head = ran.engine.header();
+    let device = ran.engine.close();
+    let history = told_by(
+        &rt,
+        alloc,
+        (&head, &device),
+        rounds,
+        &ran.asks,
+        &ran.outcomes,
+    );
+    queue_gives(&rt, alloc, head.size, &history);
 }

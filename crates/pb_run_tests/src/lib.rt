@@ -6,6 +6,8 @@ mod crowds;
 #[cfg(test)]
 mod faults;
 #[cfg(test)]
+mod history;
+#[cfg(test)]
 mod outcomes;
 #[cfg(test)]
 mod places;
@@ -13,3 +15,5 @@ mod places;
 mod scripts;
 #[cfg(test)]
 mod session;
+#[cfg(test)]
+mod told;

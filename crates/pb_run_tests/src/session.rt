@@ -64,7 +64,7 @@ fn asks_of<E: Engine>(rt: &impl Abort, alloc: Global, engine: &E, script: &str) 
     ensures asks { All (IsAskOf E.KIND (E.seen engine.now).standing.clients) result.items }
     ensures sound { IsEngine E.KIND (E.seen engine.now) }
 {
-    assert!(rt; script.len() < 65536);
+    assert!(rt; script.len() < 1_048_576);
     match parse_script(alloc, script.as_bytes(), E::KIND, engine.clients()) {
         Ok(asks) => asks,
         Err(_) => panic!(rt; "the script is read"),

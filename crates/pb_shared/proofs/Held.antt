@@ -42,11 +42,12 @@ same_published v w engine own is = record {
 }
 
 -- the round has the holder's request
-pub done_by : (v old w : PassView) (engine : EngineView) (own : Option OwnRound) (kept : Kept) → v.body ≡ old.body → v.met ≡ old.met → w ≡ after_publishing engine own v → kept ≡ newest_of engine.standing v.client → kept.number ≡ v.body.ask.number → Serves old w → HasHeld old w (Done kept.reply)
-done_by v old w engine own kept body met is kept_is number serves = (
+pub done_by : (v old w : PassView) (engine : EngineView) (own : Option OwnRound) (kept : Kept) → v.body ≡ old.body → v.met ≡ old.met → v.notes ≡ old.notes → w ≡ after_publishing engine own v → kept ≡ newest_of engine.standing v.client → kept.number ≡ v.body.ask.number → Serves old.looked old w → HasHeld old w (Done kept.reply)
+done_by v old w engine own kept body met notes is kept_is number serves = (
   ap (λ (u : PassView). u.body) is ∙ (mine ∙ (λ i. answered (reply i) (front i) (body i))),
-  subst (λ (n : ℕ). old.body.front ≤ n) front (omega (arith, ap (λ (b : Client). b.front) body)),
+  sym front ∙ ap (λ (b : Client). suc b.front) body,
   ap (λ (u : PassView). u.met) is ∙ met,
+  ap (λ (u : PassView). u.notes) is ∙ (λ i. notes i ++ Turn (2 * suc (body i).front) ∷ []),
   serves,
 )
   where
@@ -73,9 +74,11 @@ settled_busy v w engine kept turn is kept_is other turn_is = (
     front = subst (λ (n : ℕ). v.body.front ≤ n) front (omega arith);
   },
   ap (λ (u : PassView). u.met) is,
+  sym front,
   turn_is,
   refl,
   ap (λ (u : PassView). u.notes) is ∙ ap (λ (n : ℕ). v.notes ++ Turn n ∷ []) next,
+  ap (λ (u : PassView). u.looked) is,
   ap (λ (u : PassView). u.served) is ∙ append-nil v.served,
 )
   where
@@ -91,24 +94,27 @@ settled_busy v w engine kept turn is kept_is other turn_is = (
     next : 2 * suc v.body.front ≡ turn + 2
     next = omega (arith, turn_is)
 
-pub settled_serves : (v w : PassView) (engine : EngineView) → w ≡ after_publishing engine None v → Serves v w
-settled_serves v w engine is = inl (ap (λ (u : PassView). u.served) is ∙ append-nil v.served)
+pub settled_serves : (v w : PassView) (engine : EngineView) → w ≡ after_publishing engine None v → Serves v.looked v w
+settled_serves v w engine is =
+    inl (ap (λ (u : PassView). u.looked) is, ap (λ (u : PassView). u.served) is ∙ append-nil v.served)
 
 -- A fault
 
-pub fault_held : (v old w : PassView) (fault : DeviceFault) → v.body ≡ old.body → v.met ≡ old.met → v.served ≡ old.served → Rose fault.from fault.to → w ≡ after_fault fault v → HasHeld old w (Fault fault.from fault.to)
-fault_held v old w fault body met served rose is = (
+pub fault_held : (v old w : PassView) (fault : DeviceFault) → v.body ≡ old.body → v.met ≡ old.met → v.notes ≡ old.notes → v.served ≡ old.served → Rose fault.from fault.to → w ≡ after_fault fault v → HasHeld old w (Fault fault.from fault.to)
+fault_held v old w fault body met notes served rose is = (
   record {
-    body = ap (λ (u : PassView). u.body) is ∙ (λ i. record (body i) { stage = Looking; front = front i });
-    front = subst (λ (n : ℕ). old.body.front ≤ n) front (omega (arith, ap (λ (b : Client). b.front) body));
+    body = ap (λ (u : PassView). u.body) is ∙ (λ i. record (body i) { stage = Looking; front = sym front i });
+    front = omega (arith, front, ap (λ (b : Client). b.front) body);
   },
   ap (λ (u : PassView). u.met) is ∙ ap (λ (m : List Met). m ++ record { from = fault.from; to = fault.to } ∷ []) met,
+  front ∙ ap (λ (b : Client). b.front) body,
   rose,
+  ap (λ (u : PassView). u.notes) is ∙ notes,
   ap (λ (u : PassView). u.served) is ∙ served,
 )
   where
-    front : v.body.front ≡ w.body.front
-    front = sym (ap (λ (u : PassView). u.body.front) is)
+    front : w.body.front ≡ v.body.front
+    front = ap (λ (u : PassView). u.body.front) is
 
 pub same_fault : (v w : PassView) (fault : DeviceFault) → w ≡ after_fault fault v → IsSamePass v w
 same_fault v w fault is = record {
@@ -132,6 +138,15 @@ same_blank v w same = record {
 
 pub halves : (turn front : ℕ) → turn ≡ 2 * front → turn / 2 ≡ front
 halves turn front is = omega (arith, is)
+
+-- publishing a round is to have seen it
+pub published_front : (v w : PassView) (engine : EngineView) (own : Option OwnRound) → w ≡ after_publishing engine own v → w.body.front ≡ suc v.body.front
+published_front v w engine own is =
+    ap (λ (u : PassView). u.body.front) is ∙ by (eqb (newest_of engine.standing v.client).number v.body.ask.number)
+  where
+    by : (b : Bool) → (published_body b (newest_of engine.standing v.client).reply v.body).front ≡ suc v.body.front
+    by true = refl
+    by false = refl
 
 -- publishing leaves the request
 pub published_ask : (v w : PassView) (engine : EngineView) (own : Option OwnRound) → w ≡ after_publishing engine own v → w.body.ask ≡ v.body.ask
@@ -257,11 +272,12 @@ module _ {X : Type 0} (seen : X → EngineView) (kind : Kind) where
         let mine : AsksFor (the_view other).client (the_view other).body.ask.number asks = subst (λ (u : PassView). AsksFor u.client u.body.ask.number asks) (sym view_is) for in
         ap (λ (t : Standing). (newest_of t (the_view other).client).number) made.made.standing ∙ own_recorded s asks (the_view other).client (the_view other).body.ask.number h.after.ready.sound.kept.count may mine
 
-    pub made_serves : HasLooked clients (side_of start.body.ask.op) (numbers_of engine.standing) looked asks → (w : PassView) → w ≡ after_publishing (engine_now seen other) (own_by (engine_before other) (the_view other).body.front (the_view other).work (the_view other).own) (the_view other) → w.body.ask ≡ start.body.ask → Serves start w
+    pub made_serves : HasLooked clients (side_of start.body.ask.op) (numbers_of engine.standing) looked asks → (w : PassView) → w ≡ after_publishing (engine_now seen other) (own_by (engine_before other) (the_view other).body.front (the_view other).work (the_view other).own) (the_view other) → w.body.ask ≡ start.body.ask → w.body.front ≡ suc (the_view other).body.front → Serves start.looked start w
     unfolding the_own
-    made_serves has w is ask_is = inr (record {
+    made_serves has w is ask_is front_is = inr (record {
       own = the_own;
       served = ap (λ (u : PassView). u.served) is ∙ (λ i. (rest_is i).served ++ own_round (own_here i));
+      round = sym front_is;
       combined = subst (λ (l : List Ask). HasLooked w.clients (side_of w.body.ask.op) the_own.kept w.looked l) (sym (asked_entries engine.standing.state asks))
           (subst (λ (l : List Look). HasLooked w.clients (side_of w.body.ask.op) the_own.kept l asks) (sym looked_is)
           (subst (λ (a : Ask). HasLooked w.clients (side_of a.op) the_own.kept looked asks) (sym ask_is)

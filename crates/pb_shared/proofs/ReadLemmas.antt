@@ -49,6 +49,7 @@ module _ {X : Type 0} where
           subst (λ (n : ℕ). (the_view a).body.front ≤ n) rounds front,
           ap (λ (v : PassView). v.met) is,
           ap (λ (v : PassView). v.served) is,
+          record { to = to; notes = ap (λ (v : PassView). v.notes) is; round = same; front = sym rounds },
         )
 
     pub other_round : round_of_turn to ≢ round_of_turn turn → HasReadReply turn (the_view a) (the_view c) (Busy turn to)

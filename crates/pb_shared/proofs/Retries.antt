@@ -7,7 +7,8 @@ use Rattle.pb_rule.specs.View.{Met, OwnRound, Note, PassView}
 use Rattle.pb_shared.specs.declared.answers.Attempt.{Attempt}
 use Rattle.pb_shared.specs.declared.answers.Attempt.TheVariants.{Done, Busy, Fault}
 use Rattle.pb_shared.specs.declared.answers.Performed.TheVariants as performed
-use Rattle.pb_shared.specs.Tries.{HasTried, HasPerformed, HasWaited, Serves, StaysOpen, IsBusy, IsSamePass, lacked, missed, moved_on, settled}
+use Rattle.pb_shared.specs.Tries.{HasTried, HasPerformed, HasWaited, StaysOpen, HasFailedHolding, IsSamePass}
+use Rattle.pb_shared.proofs.TryLemmas.{done_as}
 
 pub waits_begin : (v : PassView) → v.body.stage ≡ Looking → HasWaited v v
 waits_begin v is = record {
@@ -17,31 +18,20 @@ waits_begin v is = record {
   same = record { clients = refl; client = refl };
 }
 
-served_of : (number from to : ℕ) (notes : List Note) (S : Type 0) → IsBusy number from to notes S → S
-served_of number from to notes S (lacked found a b c s) = s
-served_of number from to notes S (missed found a b c d s) = s
-served_of number from to notes S (moved_on a b s) = s
-served_of number from to notes S (settled found a b c d s) = s
-
 open_still : {old now : PassView} (new : PassView) → StaysOpen old now → StaysOpen now new → StaysOpen old new
 open_still new first next = record {
   body = next.body ∙ ap (λ (b : Client). record b { stage = Looking; front = new.body.front }) first.body;
   front = omega (arith, first.front, next.front);
 }
 
-served_still : {old now : PassView} (new : PassView) → now.served ≡ old.served → Serves now new → Serves old new
-served_still new same (inl e) = inl (e ∙ same)
-served_still new same (inr h) = inr (record {
-  own = h.own;
-  served = h.served ∙ ap (λ (rounds : List OwnRound). rounds ++ h.own ∷ []) same;
-  combined = h.combined;
-})
+same_number : {old now : PassView} → StaysOpen old now → now.body.ask.number ≡ old.body.ask.number
+same_number stays = ap (λ (b : Client). b.ask.number) stays.body
 
 pub waits_on : (old now new : PassView) (answer : Attempt) (from to : ℕ) → HasWaited old now → HasTried now new answer → IsSamePass now new → answer ≡ Busy from to → HasWaited old new
 waits_on old now new answer from to waited tried same is = record {
   stays = open_still new waited.stays busy.0;
   met = busy.1 ∙ waited.met;
-  served = served_of _ _ _ _ _ busy.2 ∙ waited.served;
+  served = busy.3 ∙ waited.served;
   same = record { clients = same.clients ∙ waited.same.clients; client = same.client ∙ waited.same.client };
 }
   where
@@ -53,7 +43,7 @@ performs old now new answer reply waited tried is = (
   done.0 ∙ ap (λ (b : Client). answered reply new.body.front b) waited.stays.body,
   omega (arith, waited.stays.front, done.1),
   done.2 ∙ waited.met,
-  served_still new waited.served done.3,
+  done_as (same_number waited.stays) waited.served done.3,
 )
   where
     done : HasTried now new (Done reply)
@@ -65,6 +55,7 @@ fails old now new answer from to waited tried is = (
   fault.1 ∙ ap (λ (met : List Met). met ++ record { from = from; to = to } ∷ []) waited.met,
   fault.2,
   fault.3 ∙ waited.served,
+  subst (λ (n : ℕ). HasFailedHolding n new) (same_number waited.stays) fault.4,
 )
   where
     fault : HasTried now new (Fault from to)

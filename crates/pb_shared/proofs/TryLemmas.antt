@@ -1,18 +1,18 @@
 -- A try, put together from its parts.
-use Rattle.std.proofs.Common.{◌≡◌, ◌≢◌, ℕ, ◌*◌, ◌/◌, ◌%◌, ◌≤◌, eqb, List, [], ◌∷◌, ◌++◌, sym, refl, ap, ◌∙◌, subst, inl, inr, arith}
+use Rattle.std.proofs.Common.{◌≡◌, ◌≢◌, ℕ, suc, ◌+◌, ◌*◌, ◌/◌, ◌%◌, ◌≤◌, eqb, List, [], ◌∷◌, ◌++◌, sym, refl, ap, ◌∙◌, subst, inl, inr, arith}
 use Rattle.std.proofs.lemmas.Bool.{eq-eqb, ne_eqb, cond-true, cond-false}
 use Rattle.pb_object.specs.declared.kind.Kind.{Kind}
 use Rattle.pb_core.specs.Client.{Stage, Looking, LoadsCode, Lacking, Taking, Client}
 use Rattle.pb_core.specs.Memory.{round_of_turn}
 use Rattle.pb_core.specs.WordMoves.{answered}
 use Rattle.pb_engine.specs.View.{EngineView}
-use Rattle.pb_rule.specs.View.{Note, Turn, Row, PassView}
+use Rattle.pb_rule.specs.View.{Note, Turn, Row, OwnRound, PassView}
 use Rattle.pb_rule.specs.Plays.{Seated, the_view, with_view, first_look, last_look, row_number, number_found, taken, HasTaken}
 use Rattle.pb_shared.specs.declared.answers.Attempt.{Attempt}
 use Rattle.pb_shared.specs.declared.answers.Attempt.TheVariants.{Done, Busy, Fault}
 use Rattle.pb_shared.specs.Holding.{IsHolding}
 use Rattle.pb_shared.specs.Reads.{HasReadReply}
-use Rattle.pb_shared.specs.Tries.{Serves, lacked, missed, moved_on, settled, IsSamePass, HasTried, HasHeld}
+use Rattle.pb_shared.specs.Tries.{HasCombined, Serves, HasHadTurn, IsDone, read_row, had_turn, lacked, missed, moved_on, settled, IsSamePass, HasTried, HasHeld}
 
 pub with_same : {X : Type 0} (me new : Seated X) (change : PassView → PassView) → new ≡ with_view change me → the_view new ≡ change (the_view me)
 with_same {X} me new change is = ap (λ (m : Seated X). the_view m) is
@@ -46,14 +46,16 @@ stays_by v w stage front body is after =
 
 pub read_tried : (v w : PassView) (turn : ℕ) (answer : Attempt) → v.body.front ≤ round_of_turn turn → HasReadReply turn (looked_at turn v.body.ask.number v) w answer → HasTried v w answer
 read_tried v w turn (Done reply) low read =
-    (read.0, omega (arith, low, read.1), read.2, inl read.3)
+    (read.0, omega (arith, low, read.1), read.2, read_row turn read.4.to read.4.notes read.4.round read.4.front read.3)
 read_tried v w turn (Busy from to) low read = (
   record {
     body = read.2 ∙ (λ i. record v.body { stage = Looking; front = sym (ap (λ (b : Client). b.front) read.2) i });
     front = omega (arith, low, read.3);
   },
   read.5,
-  moved_on (subst (λ (n : ℕ). w.notes ≡ Turn n ∷ Row v.body.ask.number ∷ Turn to ∷ []) (sym read.0) read.4) (λ e. read.1 (e ∙ ap (λ (n : ℕ). n / 2) read.0)) read.6,
+  ap (λ (b : Client). b.front) read.2,
+  read.6,
+  moved_on (subst (λ (n : ℕ). w.notes ≡ Turn n ∷ Row v.body.ask.number ∷ Turn to ∷ []) (sym read.0) read.4) (λ e. read.1 (e ∙ ap (λ (n : ℕ). n / 2) read.0)),
 )
 read_tried v w turn (Fault from to) low read = absurd read
 
@@ -65,7 +67,9 @@ lacked_tried v w turn found to low later other odd is = (
     front = subst (λ (n : ℕ). v.body.front ≤ n) (sym (ap (λ (u : PassView). u.body.front) is)) (omega (arith, low, later));
   },
   ap (λ (u : PassView). u.met) is,
-  lacked found (ap (λ (u : PassView). u.notes) is) other odd (ap (λ (u : PassView). u.served) is),
+  ap (λ (u : PassView). u.body.front) is,
+  ap (λ (u : PassView). u.served) is,
+  lacked found (ap (λ (u : PassView). u.notes) is) other odd,
 )
 
 pub same_looked : (v w : PassView) (turn found to : ℕ) → w ≡ last_look to (looked_at turn found v) → IsSamePass v w
@@ -76,18 +80,31 @@ same_looked v w turn found to is = record {
 
 -- Taking the turn
 
+combined_as : {v old new : PassView} → old.served ≡ v.served → HasCombined old new → HasCombined v new
+combined_as same own = record {
+  own = own.own;
+  served = own.served ∙ ap (λ (rounds : List OwnRound). rounds ++ own.own ∷ []) same;
+  round = own.round;
+  combined = own.combined;
+}
+
+-- from another view with the same request and the same rounds
+pub done_as : {v old new : PassView} → old.body.ask.number ≡ v.body.ask.number → old.served ≡ v.served → IsDone old new → IsDone v new
+done_as number same (read_row from to notes round front served) =
+    read_row from to (notes ∙ ap (λ (n : ℕ). Turn from ∷ Row n ∷ Turn to ∷ []) number) round front (served ∙ same)
+done_as {new = new} number same (had_turn turn had front (inl settles)) =
+    had_turn turn (subst (λ (n : ℕ). HasHadTurn n turn (Turn (turn + 2) ∷ []) new.notes) number had) front (inl (settles.0, settles.1 ∙ same))
+done_as {new = new} number same (had_turn turn had front (inr own)) =
+    had_turn turn (subst (λ (n : ℕ). HasHadTurn n turn (Turn (turn + 2) ∷ []) new.notes) number had) front (inr (combined_as same own))
+
 -- what a try comes to after the first two words is what it comes to
 pub rest_tried : (v w : PassView) (turn found : ℕ) (answer : Attempt) → v.body.front ≤ round_of_turn turn → HasTried (looked_at turn found v) w answer → HasTried v w answer
 rest_tried v w turn found (Done reply) low tried =
-    (tried.0, omega (arith, low, tried.1), tried.2, serves tried.3)
-  where
-    serves : Serves (looked_at turn found v) w → Serves v w
-    serves (inl same) = inl same
-    serves (inr own) = inr (record { own = own.own; served = own.served; combined = own.combined })
+    (tried.0, omega (arith, low, tried.1), tried.2, done_as refl refl tried.3)
 rest_tried v w turn found (Busy from to) low tried =
-    (record { body = tried.0.body; front = omega (arith, low, tried.0.front) }, tried.1, tried.2)
+    (record { body = tried.0.body; front = omega (arith, low, tried.0.front) }, tried.1, tried.2, tried.3, tried.4)
 rest_tried v w turn found (Fault from to) low tried =
-    (record { body = tried.0.body; front = omega (arith, low, tried.0.front) }, tried.1, tried.2, tried.3)
+    (record { body = tried.0.body; front = omega (arith, low, tried.0.front) }, tried.1, tried.2, tried.3, tried.4)
 
 pub missed_tried : (v w : PassView) (turn found to : ℕ) → v.notes ≡ Turn turn ∷ Row found ∷ [] → found ≢ v.body.ask.number → turn % 2 ≡ 0 → to ≢ turn → v.body.front ≤ round_of_turn to → w ≡ last_look to v → HasTried v w (Busy turn to)
 missed_tried v w turn found to notes other free apart later is = (
@@ -96,7 +113,9 @@ missed_tried v w turn found to notes other free apart later is = (
     front = subst (λ (n : ℕ). v.body.front ≤ n) (sym (ap (λ (u : PassView). u.body.front) is)) later;
   },
   ap (λ (u : PassView). u.met) is,
-  missed found (ap (λ (u : PassView). u.notes) is ∙ ap (λ (l : List Note). l ++ Turn to ∷ []) notes) other free apart (ap (λ (u : PassView). u.served) is),
+  ap (λ (u : PassView). u.body.front) is,
+  ap (λ (u : PassView). u.served) is,
+  missed found (ap (λ (u : PassView). u.notes) is ∙ ap (λ (l : List Note). l ++ Turn to ∷ []) notes) other free apart,
 )
 
 pub same_missed : (v w : PassView) (to : ℕ) → w ≡ last_look to v → IsSamePass v w
@@ -106,44 +125,72 @@ same_missed v w to is = record {
 }
 
 -- it has the turn
-pub held_tried : (v t w : PassView) (turn found : ℕ) (engine : EngineView) (answer : Attempt) → t ≡ taken turn engine v → v.notes ≡ Turn turn ∷ Row found ∷ [] → found ≢ v.body.ask.number → turn % 2 ≡ 0 → v.body.front ≡ round_of_turn turn → HasHeld t w answer → HasTried v w answer
-held_tried v t w turn found engine (Done reply) is notes other free front held = (
-  held.0 ∙ (λ i. answered reply w.body.front (ap (λ (u : PassView). u.body) is i)),
-  subst (λ (n : ℕ). n ≤ w.body.front) (ap (λ (u : PassView). u.body.front) is) held.1,
-  held.2 ∙ ap (λ (u : PassView). u.met) is,
-  serves held.3,
-)
-  where
-    serves : Serves t w → Serves v w
-    serves (inl same) = inl (same ∙ ap (λ (u : PassView). u.served) is)
-    serves (inr own) = inr (record {
-      own = own.own;
-      served = own.served ∙ ap (λ (u : PassView). u.served ++ own.own ∷ []) is;
-      combined = own.combined;
-    })
-held_tried v t w turn found engine (Busy from to) is notes other free front held = (
-  record {
-    body = held.0.body ∙ ap (λ (u : PassView). record u.body { stage = Looking; front = w.body.front }) is;
-    front = subst (λ (n : ℕ). n ≤ w.body.front) (ap (λ (u : PassView). u.body.front) is) held.0.front;
-  },
-  held.1 ∙ ap (λ (u : PassView). u.met) is,
-  settled found (subst (λ (n : ℕ). w.notes ≡ Turn n ∷ Row found ∷ Turn n ∷ Turn to ∷ []) (sym from_is) (held.4 ∙ (ap (λ (u : PassView). u.notes ++ Turn to ∷ []) is ∙ ap (λ (l : List Note). (l ++ Turn turn ∷ []) ++ Turn to ∷ []) notes))) other (ap (λ (n : ℕ). n % 2) from_is ∙ free) held.3 (held.5 ∙ ap (λ (u : PassView). u.served) is),
-)
-  where
-    from_is : from ≡ turn
-    from_is = held.2 ∙ (ap (λ (u : PassView). 2 * u.body.front) is ∙ (ap (λ (n : ℕ). 2 * n) front ∙ even turn free))
-      where
-        even : (n : ℕ) → n % 2 ≡ 0 → 2 * (n / 2) ≡ n
-        even n e = omega (arith, e)
-held_tried v t w turn found engine (Fault from to) is notes other free front held = (
-  record {
-    body = held.0.body ∙ ap (λ (u : PassView). record u.body { stage = Looking; front = w.body.front }) is;
-    front = subst (λ (n : ℕ). n ≤ w.body.front) (ap (λ (u : PassView). u.body.front) is) held.0.front;
-  },
-  held.1 ∙ ap (λ (u : PassView). u.met ++ record { from = from; to = to } ∷ []) is,
-  held.2,
-  held.3 ∙ ap (λ (u : PassView). u.served) is,
-)
+module _ (v t w : PassView) (turn found : ℕ) (engine : EngineView) (is : t ≡ taken turn engine v) (notes : v.notes ≡ Turn turn ∷ Row found ∷ []) (other : found ≢ v.body.ask.number) (free : turn % 2 ≡ 0) (front : v.body.front ≡ round_of_turn turn) where
+  front_taken : t.body.front ≡ turn / 2
+  front_taken = ap (λ (u : PassView). u.body.front) is ∙ front
+
+  notes_taken : t.notes ≡ Turn turn ∷ Row found ∷ Turn turn ∷ []
+  notes_taken = ap (λ (u : PassView). u.notes) is ∙ ap (λ (l : List Note). l ++ Turn turn ∷ []) notes
+
+  same_served : t.served ≡ v.served
+  same_served = ap (λ (u : PassView). u.served) is
+
+  same_front : t.body.front ≤ w.body.front → v.body.front ≤ w.body.front
+  same_front = subst (λ (n : ℕ). n ≤ w.body.front) (ap (λ (u : PassView). u.body.front) is)
+
+  -- it published this turn word
+  had : (published : ℕ) → w.notes ≡ t.notes ++ Turn published ∷ [] → HasHadTurn v.body.ask.number turn (Turn published ∷ []) w.notes
+  had published more = record {
+    found = found;
+    met = more ∙ ap (λ (l : List Note). l ++ Turn published ∷ []) notes_taken;
+    lacks = other;
+    free = free;
+  }
+
+  next_turn : 2 * suc t.body.front ≡ turn + 2
+  next_turn = omega (arith, front_taken, free)
+
+  next_front : w.body.front ≡ suc t.body.front → w.body.front ≡ (turn + 2) / 2
+  next_front more = omega (arith, front_taken, more)
+
+  pub held_tried : (answer : Attempt) → HasHeld t w answer → HasTried v w answer
+  held_tried (Done reply) held = (
+    held.0 ∙ (λ i. answered reply w.body.front (ap (λ (u : PassView). u.body) is i)),
+    same_front (omega (arith, held.1)),
+    held.2 ∙ ap (λ (u : PassView). u.met) is,
+    had_turn turn (had (turn + 2) (held.3 ∙ ap (λ (n : ℕ). t.notes ++ Turn n ∷ []) next_turn)) (next_front held.1) (serves held.4),
+  )
+    where
+      serves : Serves t.looked t w → Serves [] v w
+      serves (inl settles) = inl (settles.0 ∙ ap (λ (u : PassView). u.looked) is, settles.1 ∙ same_served)
+      serves (inr own) = inr (combined_as same_served own)
+  held_tried (Busy from to) held = (
+    record {
+      body = held.0.body ∙ ap (λ (u : PassView). record u.body { stage = Looking; front = w.body.front }) is;
+      front = same_front held.0.front;
+    },
+    held.1 ∙ ap (λ (u : PassView). u.met) is,
+    omega (arith, held.2, held.3, held.4),
+    held.7 ∙ same_served,
+    settled (subst (λ (n : ℕ). HasHadTurn v.body.ask.number n (Turn to ∷ []) w.notes) (sym from_is) (had to held.5)) held.4 (held.6 ∙ ap (λ (u : PassView). u.looked) is),
+  )
+    where
+      from_is : from ≡ turn
+      from_is = omega (arith, held.3, front_taken, free)
+  held_tried (Fault from to) held = (
+    record {
+      body = held.0.body ∙ ap (λ (u : PassView). record u.body { stage = Looking; front = w.body.front }) is;
+      front = same_front held.0.front;
+    },
+    held.1 ∙ ap (λ (u : PassView). u.met ++ record { from = from; to = to } ∷ []) is,
+    held.3,
+    held.5 ∙ same_served,
+    record {
+      turn = turn;
+      had = record { found = found; met = held.4 ∙ notes_taken; lacks = other; free = free };
+      front = held.2 ∙ front_taken;
+    },
+  )
 
 pub same_taken : (v t : PassView) (turn : ℕ) (engine : EngineView) → t ≡ taken turn engine v → IsSamePass v t
 same_taken v t turn engine is = record {

@@ -5,8 +5,9 @@ use pb_object::{Kept, Reply};
 pub enum Attempt {
     /// The request is recorded and durable, with this reply, and nothing is pending.
     Done(Reply),
-    /// Another one holds the turn, or the round that was published meanwhile lacks the request: these are two values that the turn word had
-    /// in this order. The request stays announced.
+    /// Another one holds the turn or took it first, or this call published a round that was found recorded and lacks the request, or its
+    /// reply was found and another round was published meanwhile: these are two values that the turn word had in this order. The request
+    /// stays announced.
     Busy {
         /// The value met first.
         from: u64,

@@ -8,7 +8,7 @@ use Rattle.pb_rule.specs.Plays.{Seated, the_view, engine_now}
 use Rattle.pb_rule.specs.Seats.{IsAt}
 use Rattle.pb_rule.specs.View.{PassView}
 use Rattle.pb_shared.specs.Tries.{HasHeld}
-use Rattle.pb_shared.proofs.Held.{plain_of, same_published, same_fault, same_then, same_blank, published_ask, halves, done_by, fault_held, HasCalled, rest_is, made_filling, made_failed, made_number, made_serves}
+use Rattle.pb_shared.proofs.Held.{plain_of, same_published, same_fault, same_then, same_blank, published_ask, published_front, halves, done_by, fault_held, HasCalled, rest_is, made_filling, made_failed, made_number, made_serves}
 use Rattle.pb_shared.proofs.holder.combine.Goals as goal
 
 pub make_round-requires-clause-holds : goal.make_round-requires-clause-holds
@@ -110,8 +110,8 @@ returns-in-Ok-clause-held g c =
     let view = ap (λ (m : Seated g.row.E.Denot). the_view m) p.0 in
     let kept = p.1 ∙ ap (newest_of (engine_now g.E.Engine.seen c.make_round.new.seat.me).standing) (c.requires.client.0 ∙ sym (ap (λ (u : PassView). u.client) rest)) in
     let number = made_number g.E.Engine.seen g.E.Engine.KIND h (omega (arith, c.requires.client.1)) c.in-Ok.ensures.ok in
-    done_by (the_view c.make_round.new.seat.me) (the_view c.args.seat.now.me) (the_view c.finish-kept.new.seat.me) (engine_now g.E.Engine.seen c.make_round.new.seat.me) _ c.finish-kept.result (ap (λ (u : PassView). u.body) rest) (ap (λ (u : PassView). u.met) rest) view kept (ap (λ (k : Kept). k.number) kept ∙ number)
-    (made_serves g.E.Engine.seen g.E.Engine.KIND h s.has_looked (the_view c.finish-kept.new.seat.me) view (published_ask (the_view c.make_round.new.seat.me) (the_view c.finish-kept.new.seat.me) (engine_now g.E.Engine.seen c.make_round.new.seat.me) _ view ∙ ap (λ (u : PassView). u.body.ask) rest))
+    done_by (the_view c.make_round.new.seat.me) (the_view c.args.seat.now.me) (the_view c.finish-kept.new.seat.me) (engine_now g.E.Engine.seen c.make_round.new.seat.me) _ c.finish-kept.result (ap (λ (u : PassView). u.body) rest) (ap (λ (u : PassView). u.met) rest) (ap (λ (u : PassView). u.notes) rest) view kept (ap (λ (k : Kept). k.number) kept ∙ number)
+    (made_serves g.E.Engine.seen g.E.Engine.KIND h s.has_looked (the_view c.finish-kept.new.seat.me) view (published_ask (the_view c.make_round.new.seat.me) (the_view c.finish-kept.new.seat.me) (engine_now g.E.Engine.seen c.make_round.new.seat.me) _ view ∙ ap (λ (u : PassView). u.body.ask) rest) (published_front (the_view c.make_round.new.seat.me) (the_view c.finish-kept.new.seat.me) (engine_now g.E.Engine.seen c.make_round.new.seat.me) _ view))
 
 pub returns-in-Ok-clause-same : goal.returns-in-Ok-clause-same
 returns-in-Ok-clause-same g c =
@@ -129,7 +129,7 @@ returns-in-Err-clause-held g c =
     let h : HasCalled g.E.Engine.seen g.E.Engine.KIND (the_view c.args.seat.now.me) (engine_now g.E.Engine.seen c.args.seat.now.me) c.args.clients c.scan-asks.result.items s.looked c.scan-asks.new.seat.me c.make_round.new.seat.me = record { after = after; all = c.requires.clients.0; views = c.make_round.ensures.views; holds = c.make_round.ensures.holds; sound = c.make_round.ensures.sound } in
     let rest = rest_is g.E.Engine.seen g.E.Engine.KIND h in
     let failed = made_failed g.E.Engine.seen g.E.Engine.KIND h c.in-Err.fault c.in-Err.ensures.err in
-    subst (HasHeld (the_view c.args.seat.now.me) (the_view c.abandon.new.seat.me)) (sym c.abandon.ensures.answer) (fault_held (the_view c.make_round.new.seat.me) (the_view c.args.seat.now.me) (the_view c.abandon.new.seat.me) c.in-Err.fault (ap (λ (u : PassView). u.body) rest) (ap (λ (u : PassView). u.met) rest) (ap (λ (u : PassView). u.served) rest) failed.rose (ap (λ (m : Seated g.row.E.Denot). the_view m) c.abandon.ensures.given))
+    subst (HasHeld (the_view c.args.seat.now.me) (the_view c.abandon.new.seat.me)) (sym c.abandon.ensures.answer) (fault_held (the_view c.make_round.new.seat.me) (the_view c.args.seat.now.me) (the_view c.abandon.new.seat.me) c.in-Err.fault (ap (λ (u : PassView). u.body) rest) (ap (λ (u : PassView). u.met) rest) (ap (λ (u : PassView). u.notes) rest) (ap (λ (u : PassView). u.served) rest) failed.rose (ap (λ (m : Seated g.row.E.Denot). the_view m) c.abandon.ensures.given))
 
 pub returns-in-Err-clause-same : goal.returns-in-Err-clause-same
 returns-in-Err-clause-same g c =

@@ -12,7 +12,7 @@ returns-then-kept-ask-clause-plain g c =
 pub returns-then-kept-ask-clause-held : goal.returns-then-kept-ask-clause-held
 returns-then-kept-ask-clause-held g c =
     let p = c.finish-kept.ensures.published (the_view c.args.seat.now.me) (engine_now g.E.Engine.seen c.args.seat.now.me) None c.requires.filling in
-    done_by (the_view c.args.seat.now.me) (the_view c.args.seat.now.me) (the_view c.finish-kept.new.seat.me) (engine_now g.E.Engine.seen c.args.seat.now.me) None c.finish-kept.result refl refl (ap (λ (m : Seated g.row.E.Denot). the_view m) p.0) (p.1 ∙ ap (newest_of (engine_now g.E.Engine.seen c.args.seat.now.me).standing) c.requires.client.0) (c.if-kept-ask.true ∙ ap (λ (a : Ask). a.number) c.requires.ask) (settled_serves (the_view c.args.seat.now.me) (the_view c.finish-kept.new.seat.me) (engine_now g.E.Engine.seen c.args.seat.now.me) (ap (λ (m : Seated g.row.E.Denot). the_view m) p.0))
+    done_by (the_view c.args.seat.now.me) (the_view c.args.seat.now.me) (the_view c.finish-kept.new.seat.me) (engine_now g.E.Engine.seen c.args.seat.now.me) None c.finish-kept.result refl refl refl (ap (λ (m : Seated g.row.E.Denot). the_view m) p.0) (p.1 ∙ ap (newest_of (engine_now g.E.Engine.seen c.args.seat.now.me).standing) c.requires.client.0) (c.if-kept-ask.true ∙ ap (λ (a : Ask). a.number) c.requires.ask) (settled_serves (the_view c.args.seat.now.me) (the_view c.finish-kept.new.seat.me) (engine_now g.E.Engine.seen c.args.seat.now.me) (ap (λ (m : Seated g.row.E.Denot). the_view m) p.0))
 
 pub returns-then-kept-ask-clause-same : goal.returns-then-kept-ask-clause-same
 returns-then-kept-ask-clause-same g c =
