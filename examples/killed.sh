@@ -1,5 +1,5 @@
 #!/usr/bin/env bash
-# Kills the program in mid-run with SIGKILL, five times, and runs the same script again to its end: each request took
+# Kills the program in mid-run with SIGKILL, up to five times (status 137), and runs the same script again to its end: each request took
 # effect once. The region is in a file. Four clients put 1, 2, 3 .. into a register each. A put makes its register's
 # version one more, so a version tells how many puts took effect.
 # usage: examples/killed.sh
@@ -48,18 +48,20 @@ run_and_kill() {
 # This builds the program where it isn't built yet.
 "$pbcomb" - fresh map 1 1 </dev/null
 
-# The first puts make the region, and tell how fast the disk is: the whole takes some seconds.
+# The first puts make the region, and tell how fast the disk is, so that the whole takes some seconds, and how many puts share a round.
 puts_to 25 >"$script"
 began=$(date +%s%N)
 "$pbcomb" "$region" fresh map "$clients" 4 <"$script" >/dev/null
 puts=$((25 * 3000000000 / ($(date +%s%N) - began)))
 puts=$((puts > 8000 ? 8000 : puts < 100 ? 100 : puts))
 requests=$((clients * puts))
+first_requests=$((clients * 25))
+first_rounds=$(rounds)
 puts_to "$puts" >"$script"
 echo "$requests requests of $clients clients, and the region is $region"
 
 for kill in $(seq 1 "$kills"); do
-  run_and_kill $((requests * kill / (kills + 1)))
+  run_and_kill $((requests * kill / (kills + 1) * first_rounds / first_requests))
   echo "run $kill ended with status $status, and the region has had $(rounds) rounds"
 done
 
