@@ -1,6 +1,5 @@
 -- Each cause decides.
-use Rattle.std.proofs.Common.{◌≡◌, ◌⊎◌, ℕ, zero, suc, ◌-◌, ◌<◌, ◌≤◌, List, [], ◌∷◌, Option, Some, None, IfSome, length, take, drop, refl, sym, ap, subst, ◌∙◌, arith, inl, inr, length-append, ⊎_elim}
-use Rattle.std.specs.Io.KnownBytes.{Consumes}
+use Rattle.std.proofs.Common.{◌≡◌, ◌⊎◌, ℕ, zero, suc, ◌-◌, ◌<◌, ◌≤◌, List, [], ◌∷◌, Option, Some, None, IfSome, length, take, drop, refl, sym, ap, subst, ◌∙◌, arith, inl, inr, ⊎_elim}
 use Rattle.std.proofs.lemmas.Bool.{cases_lt}
 use Rattle.std.proofs.lemmas.List.{take-append-drop}
 use Rattle.pb_pmem.specs.declared.line.Line.{Line}
@@ -22,7 +21,6 @@ use Rattle.pb_script.specs.Schedule.{HasFewEvents}
 use Rattle.pb_script.proofs.Steps.{IsScript_front}
 use Rattle.pb_replay.specs.Replay.{HasTooManyEvents, IsReplayed, HasBadEvent}
 use Rattle.pb_replay.proofs.OneReplay.{one_bad_line, replayed_or_bad}
-use Rattle.pb_broker.specs.declared.source.TheConstants.{SOURCE_LIMIT}
 use Rattle.pb_broker.specs.declared.status.Status.{Status}
 use Rattle.pb_broker.specs.declared.stop.Stop.{Stop}
 use Rattle.pb_broker.specs.declared.stop.Stop.TheVariants.{Memory, Usage, ReadFault, Long, Many, Line as BadLine, DeviceFault, Taken, NoRegion, Damaged}
@@ -33,7 +31,7 @@ use Rattle.pb_broker.specs.Laws.{TellsScript, TellsStanding, TellsBytes, TellsSo
 use Rattle.pb_broker.specs.Texts.{ending_text, ending_status}
 use Rattle.pb_broker.specs.Top.{IsAnswered}
 use Rattle.pb_broker.proofs.Complete.{ComesFresh, ComesToRun, here, same_standing, has_one, is_sound, long_consumed, of_bytes}
-use Rattle.pb_broker.proofs.Endings.{content, whole_weaker, script_is_few}
+use Rattle.pb_broker.proofs.Endings.{whole_weaker, script_is_few}
 use Rattle.pb_broker.specs.Source.{IsReadWhole, IsLong}
 use Rattle.pb_broker.specs.Stream.{Stream}
 

@@ -20,7 +20,7 @@ use Rattle.pb_layout_laws.proofs.ToldCalls.{from_told}
 use Rattle.pb_core.proofs.Histories.{legal-push}
 use Rattle.pb_report.specs.declared.outcome.Outcome.{Outcome}
 use Rattle.pb_report.specs.Outcomes.{Outcomes, HasEntry, entry_of}
-use Rattle.pb_run.specs.Run.{HasRun, is_doubt, AreNewRecorded}
+use Rattle.pb_run.specs.Run.{HasRun, is_doubt, AreNewRecorded, AreCharged}
 use Rattle.pb_broker.proofs.Counts.{fences_counted, syncs_counted}
 use Rattle.pb_broker.specs.Running.{Explains, NoneInDoubt, AreAround, AreAroundDoubt, IsCalmRun, IsWork, IsLogged}
 
@@ -100,7 +100,7 @@ same_ops tale told a b first second =
 -- requests were run from a start on that has come from the first view with no round; no call failed between
 pub record IsRunSince (first start : EngineView) (asks : List Ask) (now : EngineView) (list : List Outcome) : Type 0 where
   pub run : HasRun start asks now list
-  pub come : HasCome first now run.rounds (count_by is_doubt list)
+  pub come : HasCome first now run.rounds (count_by is_doubt list) run.calls
   pub same : start.standing ≡ first.standing
   pub sure : start.sure ≡ true
   pub first_sure : first.sure ≡ true
@@ -187,18 +187,23 @@ settled_with {first} {start} {now} since tale history left told sealed are calm 
     }
 
 -- its operations are those of the engine's calls
-worked : {first start now : EngineView} {asks : List Ask} {list : List Outcome} (since : IsRunSince first start asks now list) (tale : Tale) (ops : List LogOp) → first.device.told ≡ Some tale → now.device.told ≡ Some (with_ops ops tale) → IsWork first.standing since.run.rounds now.doubt list ops
+worked : {first start now : EngineView} {asks : List Ask} {list : List Outcome} (since : IsRunSince first start asks now list) (tale : Tale) (ops : List LogOp) → first.device.told ≡ Some tale → now.device.told ≡ Some (with_ops ops tale) → IsWork first.standing since.run.rounds now.doubt asks list ops
 worked {first} {start} {now} {asks} {list} since tale ops told left = record {
-  calls = called.calls;
-  are = subst (λ (p : Progress). AreCalls first.standing p called.calls) begun called.are;
-  ops_are = same_ops tale now.device.told ops (all_ops called.calls) left (called.told ∙ ap (option_map (with_ops (all_ops called.calls))) told);
+  calls = since.run.calls;
+  are = subst (λ (p : Progress). AreCalls first.standing p since.run.calls) begun called.are;
+  ops_are = same_ops tale now.device.told ops (all_ops since.run.calls) left (called.told ∙ ap (option_map (with_ops (all_ops since.run.calls))) told);
   sure = now.sure;
-  come = ap (λ (p : Progress). after_calls p called.calls) (sym begun) ∙ called.come;
+  come = ap (λ (p : Progress). after_calls p since.run.calls) (sym begun) ∙ called.come;
   failed = called.failed;
+  charged = subst (λ (t : Standing). AreCharged t (record { rounds = []; sure = true; doubt = None }) since.run.calls (zip asks list)) since.same (subst (λ (p : Progress). AreCharged start.standing p since.run.calls (zip asks list)) run_begun since.run.charged);
+  made = since.run.made;
 }
   where
-    called : HasCalled first now since.run.rounds (count_by is_doubt list)
+    called : HasCalled first now since.run.rounds (count_by is_doubt list) since.run.calls
     called = since.come.called
+
+    run_begun : progress_of [] start ≡ record { rounds = []; sure = true; doubt = None }
+    run_begun = λ i. record { rounds = []; sure = since.sure i; doubt = since.decided i }
 
     begun : progress_of [] first ≡ record { rounds = []; sure = true; doubt = None }
     begun = λ i. record { rounds = []; sure = since.first_sure i; doubt = since.first_decided i }

@@ -88,7 +88,10 @@ no_lines history kept = tt
 pub nothing_run : (start : EngineView) → start.doubt ≡ None → HasRun start [] start []
 nothing_run start none = record {
   rounds = [];
+  calls = [];
   come = at_start start;
+  charged = record { asks = []; made_for = tt; next = tt; each_client = λ client. refl };
+  made = λ round ops call. absurd (omega (arith, call.1));
   outcomes = nothing;
   settled = subst (λ (h : History). Outcomes start.standing h [] []) (sym (ap (settled_rounds []) none)) nothing;
   recorded = λ ask reply line. absurd (omega (arith, line.1));

@@ -1,21 +1,21 @@
 -- A call of `fresh` or `run` on a device at rest has one run.
-use Rattle.std.proofs.Common.{◌≡◌, ◌≢◌, ◌⊎◌, ℕ, ◌≤◌, List, [], ◌∷◌, ◌++◌, length, take, Option, Some, None, refl, sym, ap, subst, ◌∙◌, arith, inl, inr}
+use Rattle.std.proofs.Common.{◌≡◌, ◌≢◌, ◌⊎◌, ℕ, ◌≤◌, List, [], ◌∷◌, length, Option, Some, None, refl, sym, ap, subst, ◌∙◌, arith, inl, inr}
 use Rattle.std.specs.Prelude.{Contains, codes, count_by, option_map}
 use Rattle.std.specs.List.{zip}
 use Rattle.std.proofs.lemmas.Bool.{cases_eq}
-use Rattle.std.proofs.lemmas.List.{append-nil, take_all}
+use Rattle.std.proofs.lemmas.List.{append-nil}
 use Rattle.std.proofs.lemmas.List.Elements.{All-nil}
 use Rattle.pb_pmem.specs.declared.line.Line.{Line}
 use Rattle.pb_pmem.specs.declared.log.LogOp.{LogOp}
 use Rattle.pb_pmem.specs.Contents.{contents}
 use Rattle.pb_pmem.specs.Count.{Rose}
-use Rattle.pb_pmem.specs.Crash.{IsAtRest, IsCrashImage, IsCrashImageAt}
-use Rattle.pb_pmem.specs.Device.{Device, Tale, IsReplay}
+use Rattle.pb_pmem.specs.Crash.{IsCrashImage, IsCrashImageAt}
+use Rattle.pb_pmem.specs.Device.{Tale, IsReplay}
 use Rattle.pb_pmem.specs.Operations.{with_ops}
 use Rattle.pb_object.specs.declared.kind.Kind.{Kind}
 use Rattle.pb_object.specs.declared.kind.Kind.TheVariants.{Map}
 use Rattle.pb_object.specs.declared.request.Ask.{Ask}
-use Rattle.pb_object.specs.History.{History, Round, IsLegal, state_after}
+use Rattle.pb_object.specs.History.{History, state_after}
 use Rattle.pb_object.specs.Standing.{Standing, empty_standing}
 use Rattle.pb_layout.specs.Damage.{HasRegion}
 use Rattle.pb_layout.specs.Exits.{empty_for}
@@ -40,17 +40,17 @@ use Rattle.pb_broker.specs.declared.status.Status.{Status}
 use Rattle.pb_broker.specs.declared.stop.Stop.{Stop}
 use Rattle.pb_broker.specs.declared.stop.Stop.TheVariants.{Usage}
 use Rattle.pb_broker.specs.Call.{Call, IsSaid}
-use Rattle.pb_broker.specs.Chain.{Point, Called, IsStart, HasRequests, begun_by, first_behind, rounds_behind}
+use Rattle.pb_broker.specs.Chain.{Point, Called, HasRequests, begun_by, first_behind, rounds_behind}
 use Rattle.pb_broker.specs.Comes.{Comes, TellsNoRegion}
 use Rattle.pb_broker.specs.Ending.{Ending, Stopped, Served, Drilled, Reported, Replayed}
 use Rattle.pb_broker.specs.Recovery.{IsRunning, IsRegionOf, IsFirst, IsAfterSome, IsWritten, HasOneRun, IsRecoverable}
 use Rattle.pb_broker.specs.Stream.{Stream}
-use Rattle.pb_broker.specs.Texts.{ending_says, stop_says}
+use Rattle.pb_broker.specs.Texts.{ending_says}
 use Rattle.pb_broker.specs.Top.{IsAnswered}
 use Rattle.pb_broker.proofs.Behind.{rounds_are}
 use Rattle.pb_broker.proofs.Cases.{Case, IsIdle, Made, FailedToMake, same, made, failed, ran, cut, case_of}
-use Rattle.pb_broker.proofs.Held.{IsHeld, IsHeldAt, IsServing, Stays, held_call, held_point, served_held, serving}
-use Rattle.pb_broker.proofs.Points.{AnyRounds, IsSound, IsRegionPoint, start_sound}
+use Rattle.pb_broker.proofs.Held.{IsHeld, IsHeldAt, IsServing, held_call, held_point, served_held, serving}
+use Rattle.pb_broker.proofs.Points.{AnyRounds, IsSound, start_sound}
 use Rattle.pb_broker.proofs.Replied.{new_recorded}
 use Rattle.pb_broker.proofs.Steps.{call_sound, empty_keeps, if_lines, same_rounds}
 

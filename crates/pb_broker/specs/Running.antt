@@ -22,7 +22,7 @@ use Rattle.pb_engine.specs.View.{DeviceRepresents, FailedRound}
 use Rattle.pb_report.specs.declared.outcome.Outcome.{Outcome}
 use Rattle.pb_report.specs.declared.outcome.Outcome.TheVariants.{Doubt}
 use Rattle.pb_report.specs.Outcomes.{Outcomes, is_tried}
-use Rattle.pb_run.specs.Run.{is_doubt, HasFaultForEach, AreNewRecorded}
+use Rattle.pb_run.specs.Run.{is_doubt, HasFaultForEach, AreNewRecorded, AreCharged, HaveNewLines}
 
 -- A history explains what became of a script's requests: it is legal, the outcomes are those of a run with it, and it
 -- has no more rounds than lines that are new or in doubt
@@ -79,14 +79,17 @@ AreAround s known (Some failed) told members = AreAroundDoubt s known failed.cal
 
 -- What the operations of a run are: those of calls of an engine that was sure, one after the other: of rounds that were made or failed, and
 -- of settlings that were made or failed, each of what is in doubt then. They recorded the rounds that are known for sure, and left this one in
--- doubt, if any; and as many of them failed as lines are in doubt
-pub record IsWork (s : Standing) (known : History) (doubt : Option FailedRound) (list : List Outcome) (ops : List LogOp) : Type 0 where
+-- doubt, if any. As many of them failed as lines are in doubt: each was made for the request of one of these. Each round that was made has a
+-- line that is new
+pub record IsWork (s : Standing) (known : History) (doubt : Option FailedRound) (asks : List Ask) (list : List Outcome) (ops : List LogOp) : Type 0 where
   pub calls : List EngineCall
   pub are : AreCalls s (record { rounds = []; sure = true; doubt = None }) calls
   pub ops_are : ops ≡ all_ops calls
   pub sure : Bool
   pub come : after_calls (record { rounds = []; sure = true; doubt = None }) calls ≡ record { rounds = known; sure = sure; doubt = doubt }
   pub failed : failure_count calls ≡ count_by is_doubt list
+  pub charged : AreCharged s (record { rounds = []; sure = true; doubt = None }) calls (zip asks list)
+  pub made : HaveNewLines calls (zip asks list)
 
 -- What the log tells of a run since this moment. Its operations begin with these first ones, and are covered from s on by
 -- the history that they tell: at each moment since, each image that a crash may leave represents the state after a prefix
@@ -101,7 +104,7 @@ pub record IsLogged (known : History) (s : Standing) (first : List LogOp) (asks 
   pub more : List LogOp
   pub parts : left.ops ≡ first ++ more
   pub doubt : Option FailedRound
-  pub work : IsWork s known doubt list more
+  pub work : IsWork s known doubt asks list more
   pub around : AreAround s known doubt (rounds_in history) members
   pub explained : Explains (rounds_in history) s asks list
   pub settled : Explains (settled_rounds known doubt) s asks list

@@ -9,7 +9,7 @@ use Rattle.pb_object.specs.declared.kind.Kind.TheVariants.{Map, Stack, Heap, Que
 use Rattle.pb_object.specs.declared.request.Ask.{Ask}
 use Rattle.pb_object.specs.declared.request.Op.{Op}
 use Rattle.pb_object.specs.declared.request.TheConstants.{KEPT_REQUESTS}
-use Rattle.pb_object.specs.History.{Entry, Round, after_entries, after_round, IsOfSide, IsLegalRound}
+use Rattle.pb_object.specs.History.{Entry, Round, after_round, IsOfSide, IsLegalRound}
 use Rattle.pb_object.specs.Object.{State, Registers, Items, Rising, Waits}
 use Rattle.pb_object.specs.ObjectLines.{kind_of, LinesRepresent}
 use Rattle.pb_object.specs.Request.{IsOperation}

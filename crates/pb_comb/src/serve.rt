@@ -3,7 +3,7 @@ ghost use Rattle.pb_object.specs.ObjectLines.{size_of};
 ghost use Rattle.pb_object.specs.Request.{IsOperation};
 ghost use Rattle.pb_engine.specs.Asks.{answered_from, state_from};
 ghost use Rattle.pb_engine.specs.Next.{PutsEntries};
-ghost use Rattle.pb_comb.specs.Serving.{AreServable, IsServable};
+ghost use Rattle.pb_comb.specs.Serving.{AreServable};
 
 use pb_engine::NextRecord;
 use pb_object::{Ask, Kept, Object};

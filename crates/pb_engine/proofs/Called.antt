@@ -5,7 +5,7 @@ use Rattle.pb_pmem.specs.declared.device.DeviceFault.{DeviceFault}
 use Rattle.pb_pmem.specs.declared.log.LogOp.{LogOp}
 use Rattle.pb_pmem.specs.Device.{Tale}
 use Rattle.pb_pmem.specs.Operations.{with_ops, IsFailedPrefix}
-use Rattle.pb_object.specs.History.{Round, History, state_after}
+use Rattle.pb_object.specs.History.{Round, History, IsLegalRound, state_after}
 use Rattle.pb_object.specs.Standing.{Standing}
 use Rattle.pb_layout.specs.RegionOps.{settle_to}
 use Rattle.pb_layout.specs.Represents.{header_for}
@@ -49,9 +49,8 @@ never_nil calls call is = omega (arith, ap length is, length-append calls (call 
 
 -- Beginning
 
-pub none_called : (start : EngineView) → HasCalled start start [] 0
+pub none_called : (start : EngineView) → HasCalled start start [] 0 []
 none_called start = record {
-  calls = [];
   are = tt;
   come = refl;
   failed = refl;
@@ -61,29 +60,28 @@ none_called start = record {
 
 -- One call more
 
-one_more : (start old new : EngineView) (rounds more : History) (failures later : ℕ) (call : EngineCall) → HasCalled start old rounds failures → IsCall start.standing (progress_of rounds old) call → after_call (progress_of rounds old) call ≡ progress_of more new
-    → later ≡ failures + failure_count (call ∷ []) → new.device.told ≡ option_map (with_ops (ops_of call)) old.device.told → HasCalled start new more later
-one_more start old new rounds more failures later call called is moved counted told = record {
-  calls = called.calls ++ call ∷ [];
-  are = AreCalls-append start.standing (progress_of [] start) called.calls (call ∷ []) called.are (subst (λ (p : Progress). IsCall start.standing p call) (sym called.come) is, tt);
-  come = after_calls-append (progress_of [] start) called.calls (call ∷ []) ∙ (ap (λ (p : Progress). after_call p call) called.come ∙ moved);
-  failed = failure_count-append called.calls (call ∷ []) ∙ (ap (λ (n : ℕ). n + failure_count (call ∷ [])) called.failed ∙ sym counted);
-  told = told ∙ (ap (option_map (with_ops (ops_of call))) called.told ∙ (told_more start.device.told (all_ops called.calls) (ops_of call) ∙ ap (λ (ops : List LogOp). option_map (with_ops ops) start.device.told) (sym (all_ops-append called.calls (call ∷ []) ∙ ap (λ (ops : List LogOp). all_ops called.calls ++ ops) (append-nil (ops_of call))))));
-  idle = λ is_nil. absurd (never_nil called.calls call is_nil);
+one_more : (start old new : EngineView) (rounds more : History) (failures later : ℕ) (calls : List EngineCall) (call : EngineCall) → HasCalled start old rounds failures calls → IsCall start.standing (progress_of rounds old) call → after_call (progress_of rounds old) call ≡ progress_of more new
+    → later ≡ failures + failure_count (call ∷ []) → new.device.told ≡ option_map (with_ops (ops_of call)) old.device.told → HasCalled start new more later (calls ++ call ∷ [])
+one_more start old new rounds more failures later calls call called is moved counted told = record {
+  are = AreCalls-append start.standing (progress_of [] start) calls (call ∷ []) called.are (subst (λ (p : Progress). IsCall start.standing p call) (sym called.come) is, tt);
+  come = after_calls-append (progress_of [] start) calls (call ∷ []) ∙ (ap (λ (p : Progress). after_call p call) called.come ∙ moved);
+  failed = failure_count-append calls (call ∷ []) ∙ (ap (λ (n : ℕ). n + failure_count (call ∷ [])) called.failed ∙ sym counted);
+  told = told ∙ (ap (option_map (with_ops (ops_of call))) called.told ∙ (told_more start.device.told (all_ops calls) (ops_of call) ∙ ap (λ (ops : List LogOp). option_map (with_ops ops) start.device.told) (sym (all_ops-append calls (call ∷ []) ∙ ap (λ (ops : List LogOp). all_ops calls ++ ops) (append-nil (ops_of call))))));
+  idle = λ is_nil. absurd (never_nil calls call is_nil);
 }
 
-module _ (start old new : EngineView) (rounds : History) (failures : ℕ) (called : HasCalled start old rounds failures) (standing : old.standing ≡ state_after start.standing rounds) where
-  pub round_called : (round : Round) → old.sure ≡ true → HasMade round old new → HasCalled start new (rounds ++ round ∷ []) failures
+module _ (start old new : EngineView) (rounds : History) (failures : ℕ) (calls : List EngineCall) (called : HasCalled start old rounds failures calls) (standing : old.standing ≡ state_after start.standing rounds) where
+  pub round_called : (round : Round) → old.sure ≡ true → (made : HasMade round old new) → HasCalled start new (rounds ++ round ∷ []) failures (calls ++ Made round (round_ops old round made.lines) ∷ [])
   round_called round sure made =
-      one_more start old new rounds (rounds ++ round ∷ []) failures failures (Made round (round_ops old round made.lines)) called
+      one_more start old new rounds (rounds ++ round ∷ []) failures failures calls (Made round (round_ops old round made.lines)) called
       (sure, record { engine = old; standing = standing; lines = made.lines; record_is = made.record_is; ops_are = refl })
       (λ i. record { rounds = rounds ++ round ∷ []; sure = sym made.sure i; doubt = sym made.doubt i })
       (omega arith) made.device.told
 
-  pub failure_called : (round : Round) (fault : DeviceFault) → old.sure ≡ true → HasFailedToMake round fault old new → HasCalled start new rounds (failures + 1)
-  failure_called round fault sure failed =
-      one_more start old new rounds rounds failures (failures + 1) (Failed (record { round = round; called = failed.called }) failed.device.stops.ops) called
-      (sure, record { engine = old; standing = standing; lines = failed.lines; record_is = failed.record_is; cut = failed.device.stops.cut })
+  pub failure_called : (round : Round) (fault : DeviceFault) → IsLegalRound old.standing round → old.sure ≡ true → (failed : HasFailedToMake round fault old new) → HasCalled start new rounds (failures + 1) (calls ++ Failed (record { round = round; called = failed.called }) failed.device.stops.ops ∷ [])
+  failure_called round fault legal sure failed =
+      one_more start old new rounds rounds failures (failures + 1) calls (Failed (record { round = round; called = failed.called }) failed.device.stops.ops) called
+      (sure, subst (λ (t : Standing). IsLegalRound t round) standing legal, record { engine = old; standing = standing; lines = failed.lines; record_is = failed.record_is; cut = failed.device.stops.cut })
       (λ i. record { rounds = rounds; sure = sym failed.unsure.sure i; doubt = sym failed.doubt i })
       (omega arith) failed.device.stops.told
 
@@ -99,16 +97,16 @@ module _ (start old new : EngineView) (rounds : History) (failures : ℕ) (calle
       by_doubt None = standing
       by_doubt (Some failed) = by_called failed.called failed.round
 
-  pub settling_called : old.sure ≡ false → HasSettled old new → HasCalled start new (settled_rounds rounds old.doubt) failures
+  pub settling_called : old.sure ≡ false → HasSettled old new → HasCalled start new (settled_rounds rounds old.doubt) failures (calls ++ Settled (settle_to (header_for new.standing) new.standing) ∷ [])
   settling_called unsure settled =
-      one_more start old new rounds (settled_rounds rounds old.doubt) failures failures (Settled (settle_to (header_for new.standing) new.standing)) called
+      one_more start old new rounds (settled_rounds rounds old.doubt) failures failures calls (Settled (settle_to (header_for new.standing) new.standing)) called
       (unsure, ap (λ (t : Standing). settle_to (header_for t) t) (settled.standing ∙ settled_to))
       (λ i. record { rounds = settled_rounds rounds old.doubt; sure = sym settled.sure i; doubt = sym settled.doubt i })
       (omega arith) settled.device.told
 
-  pub failed_settling_called : (fault : DeviceFault) → old.sure ≡ false → HasFailedToSettle fault old new → HasCalled start new rounds (failures + 1)
+  pub failed_settling_called : (fault : DeviceFault) → old.sure ≡ false → (failed : HasFailedToSettle fault old new) → HasCalled start new rounds (failures + 1) (calls ++ FailedSettling failed.device.stops.ops ∷ [])
   failed_settling_called fault unsure failed =
-      one_more start old new rounds rounds failures (failures + 1) (FailedSettling failed.device.stops.ops) called
+      one_more start old new rounds rounds failures (failures + 1) calls (FailedSettling failed.device.stops.ops) called
       (unsure, subst (λ (t : Standing). IsFailedPrefix (settle_to (header_for t) t) failed.device.stops.ops) settled_to failed.device.stops.cut)
       (λ i. record { rounds = rounds; sure = sym failed.unsure.sure i; doubt = sym failed.doubt i })
       (omega arith) failed.device.stops.told
@@ -135,7 +133,8 @@ module _ (s : Standing) (rounds : History) where
 
   call_behind : (p : Progress) (call : EngineCall) → IsCall (state_after s rounds) p call → IsCall s (behind rounds p) call
   call_behind p (Made round ops) is = (is.0, subst (λ (t : Standing). IsRoundOps t round ops) (state_behind p.rounds) is.1)
-  call_behind p (Failed failed ops) is = (is.0, subst (λ (t : Standing). IsCutRoundOps t failed ops) (state_behind p.rounds) is.1)
+  call_behind p (Failed failed ops) is =
+      (is.0, subst (λ (t : Standing). IsLegalRound t failed.round) (state_behind p.rounds) is.1, subst (λ (t : Standing). IsCutRoundOps t failed ops) (state_behind p.rounds) is.2)
   call_behind p (Settled ops) is = (is.0, is.1 ∙ settling_behind p)
   call_behind p (FailedSettling ops) is = (is.0, subst (λ (all : List LogOp). IsFailedPrefix all ops) (settling_behind p) is.1)
 
@@ -154,22 +153,21 @@ module _ (s : Standing) (rounds : History) where
   come_behind p [] = refl
   come_behind p (call ∷ calls) = ap (λ (q : Progress). after_calls q calls) (after_behind p call) ∙ come_behind (after_call p call) calls
 
-pub called_on : (first middle last : EngineView) (rounds more : History) (failures others : ℕ) → HasCalled first middle rounds failures → middle.standing ≡ state_after first.standing rounds → HasCalled middle last more others → HasCalled first last (rounds ++ more) (failures + others)
-called_on first middle last rounds more failures others one standing two = record {
-  calls = one.calls ++ two.calls;
-  are = AreCalls-append first.standing (progress_of [] first) one.calls two.calls one.are (subst (λ (p : Progress). AreCalls first.standing p two.calls) (sym here) (calls_behind first.standing rounds (progress_of [] middle) two.calls (subst (λ (t : Standing). AreCalls t (progress_of [] middle) two.calls) standing two.are)));
-  come = after_calls-append (progress_of [] first) one.calls two.calls ∙ (ap (λ (p : Progress). after_calls p two.calls) here ∙ (come_behind first.standing rounds (progress_of [] middle) two.calls ∙ ap (behind rounds) two.come));
-  failed = omega (arith, failure_count-append one.calls two.calls, one.failed, two.failed);
-  told = two.told ∙ (ap (option_map (with_ops (all_ops two.calls))) one.told ∙ (told_more first.device.told (all_ops one.calls) (all_ops two.calls) ∙ ap (λ (ops : List LogOp). option_map (with_ops ops) first.device.told) (sym (all_ops-append one.calls two.calls))));
+pub called_on : (first middle last : EngineView) (rounds more : History) (failures others : ℕ) (before after : List EngineCall) → HasCalled first middle rounds failures before → middle.standing ≡ state_after first.standing rounds → HasCalled middle last more others after → HasCalled first last (rounds ++ more) (failures + others) (before ++ after)
+called_on first middle last rounds more failures others before after one standing two = record {
+  are = AreCalls-append first.standing (progress_of [] first) before after one.are (subst (λ (p : Progress). AreCalls first.standing p after) (sym here) (calls_behind first.standing rounds (progress_of [] middle) after (subst (λ (t : Standing). AreCalls t (progress_of [] middle) after) standing two.are)));
+  come = after_calls-append (progress_of [] first) before after ∙ (ap (λ (p : Progress). after_calls p after) here ∙ (come_behind first.standing rounds (progress_of [] middle) after ∙ ap (behind rounds) two.come));
+  failed = omega (arith, failure_count-append before after, one.failed, two.failed);
+  told = two.told ∙ (ap (option_map (with_ops (all_ops after))) one.told ∙ (told_more first.device.told (all_ops before) (all_ops after) ∙ ap (λ (ops : List LogOp). option_map (with_ops ops) first.device.told) (sym (all_ops-append before after))));
   idle = λ none.
-      let first_none : one.calls ≡ [] = no_front one.calls none in
-      let second_none : two.calls ≡ [] = ap (λ (calls : List EngineCall). calls ++ two.calls) (sym first_none) ∙ none in
+      let first_none : before ≡ [] = no_front before none in
+      let second_none : after ≡ [] = ap (λ (calls : List EngineCall). calls ++ after) (sym first_none) ∙ none in
       two.idle second_none ∙ one.idle first_none;
 }
   where
-    here : after_calls (progress_of [] first) one.calls ≡ behind rounds (progress_of [] middle)
+    here : after_calls (progress_of [] first) before ≡ behind rounds (progress_of [] middle)
     here = one.come ∙ ap (λ (h : History). record { rounds = h; sure = middle.sure; doubt = middle.doubt }) (sym (append-nil rounds))
 
-    no_front : (calls : List EngineCall) → calls ++ two.calls ≡ [] → calls ≡ []
+    no_front : (calls : List EngineCall) → calls ++ after ≡ [] → calls ≡ []
     no_front [] is = refl
     no_front (call ∷ calls) is = absurd (omega (arith, ap length is))

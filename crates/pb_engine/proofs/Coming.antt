@@ -27,7 +27,7 @@ use Rattle.pb_layout_laws.proofs.ReadyWithOne.{only_member}
 use Rattle.pb_layout_laws.proofs.Settling.{settling_failing}
 use Rattle.pb_layout_laws.proofs.ToldCalls.{told_exit, told_then, told_then_sealed, nothing_told, sealed_after, sealed_then, after_then, if_told, from_told}
 use Rattle.pb_engine.specs.Covers.{RoundCovers, FailedRoundCovers, SettleCovers, FailedSettleCovers}
-use Rattle.pb_engine.specs.Calls.{HasCalled, with_doubt, settled_rounds}
+use Rattle.pb_engine.specs.Calls.{EngineCall, Made, Failed, Settled, FailedSettling, HasCalled, with_doubt, settled_rounds}
 use Rattle.pb_engine.specs.Good.{BeginsAt, IsInDoubtAfter, IsDecidedAfter, settlings, HasCost, IsQuiet, HasCome}
 use Rattle.pb_engine.specs.Operations.{round_ops}
 use Rattle.pb_engine.specs.Outcomes.{stored_over, stored_on_first, stored_on_second, HasMade, HasFailedToMake, HasSettled, HasFailedToSettle}
@@ -68,7 +68,7 @@ decided_at_start tale members start false is begins = inr (
   },
 )
 
-pub at_start : (start : EngineView) → HasCome start start [] 0
+pub at_start : (start : EngineView) → HasCome start start [] 0 []
 at_start start = record {
   legal = tt;
   standing = refl;
@@ -111,8 +111,8 @@ sure_is_sealed : (tale : Tale) (members : List (Option Standing)) (old : EngineV
 sure_is_sealed tale members old s rounds sure (inl after) = after
 sure_is_sealed tale members old s rounds sure (inr found) = absurd (cc (sure, found.0))
 
-sealed_so_far : (tale : Tale) (members : List (Option Standing)) (start old : EngineView) (rounds : History) (failures : ℕ) → HasCome start old rounds failures → old.sure ≡ true → old.doubt ≡ None → BeginsAt tale members start → IsSealedAfter tale old.device start.standing rounds
-sealed_so_far tale members start old rounds failures come sure none begins =
+sealed_so_far : (tale : Tale) (members : List (Option Standing)) (start old : EngineView) (rounds : History) (failures : ℕ) (calls : List EngineCall) → HasCome start old rounds failures calls → old.sure ≡ true → old.doubt ≡ None → BeginsAt tale members start → IsSealedAfter tale old.device start.standing rounds
+sealed_so_far tale members start old rounds failures calls come sure none begins =
     sure_is_sealed tale members old start.standing rounds sure ((come.covered tale members begins).decided (ap was_called none))
 
 told_more : (old new : Option Tale) (tale : Tale) (ops more : List LogOp) → old ≡ Some (with_ops ops tale) → new ≡ option_map (with_ops more) old → new ≡ Some (with_ops (ops ++ more) tale)
@@ -147,15 +147,16 @@ made_held old new round legal made held = record {
   in_use = made.in_use held.in_use;
 }
 
-pub after_round_made : (start old new : EngineView) (rounds : History) (failures : ℕ) (round : Round) → HasCome start old rounds failures → IsLegalRound old.standing round → old.sure ≡ true → old.doubt ≡ None → HasMade round old new → RoundCovers round old new → HasCome start new (rounds ++ round ∷ []) failures
-after_round_made start old new rounds failures round come legal sure none made covers = record {
+pub after_round_made : (start old new : EngineView) (rounds : History) (failures : ℕ) (calls : List EngineCall) (round : Round) → HasCome start old rounds failures calls → IsLegalRound old.standing round → old.sure ≡ true → old.doubt ≡ None → (made : HasMade round old new) → RoundCovers round old new
+    → HasCome start new (rounds ++ round ∷ []) failures (calls ++ Made round (round_ops old round made.lines) ∷ [])
+after_round_made start old new rounds failures calls round come legal sure none made covers = record {
   legal = legal-push start.standing rounds round come.legal (subst (λ (t : Standing). IsLegalRound t round) come.standing legal);
   standing = made.standing ∙ (ap (λ (t : Standing). after_round t round) come.standing ∙ sym (state_after-append start.standing rounds (round ∷ [])));
   count = omega (arith, come.count, made.device.faults);
   calm = λ calm. made.device.faults ∙ come.calm calm;
   rose = λ some. subst (Rose start.device.faults) (sym made.device.faults) (come.rose some);
   each = omega (arith, come.each, made.device.faults);
-  called = round_called start old new rounds failures come.called come.standing round sure made;
+  called = round_called start old new rounds failures calls come.called come.standing round sure made;
   quiet = λ calm.
       let before = come.quiet calm in
       record {
@@ -166,7 +167,7 @@ after_round_made start old new rounds failures round come legal sure none made c
       };
   covered = λ tale members begins. record {
     decided = λ uncalled.
-        let after = sealed_so_far tale members start old rounds failures come sure none begins in
+        let after = sealed_so_far tale members start old rounds failures calls come sure none begins in
         let tale_then : Tale = with_ops after.left.ops tale in
         inl (sealed_then after (subst (λ (t : Standing). IsCoveredExit tale_then new.device t (sealed_round round ∷ []) (Some (after_round t round) ∷ [])) come.standing
         (covers tale_then after.left.told (ready_then tale old start.standing rounds come.standing after))));
@@ -228,18 +229,19 @@ sealed_still tale old new s rounds after standing exit =
 same_doubt : (new : EngineView) (failed other : FailedRound) → new.doubt ≡ Some failed → new.doubt ≡ Some other → failed ≡ other
 same_doubt new failed other one two = cc (one, two)
 
-pub after_round_failed : (start old new : EngineView) (rounds : History) (failures : ℕ) (round : Round) (fault : DeviceFault) → HasCome start old rounds failures → old.sure ≡ true → old.doubt ≡ None → HasFailedToMake round fault old new → FailedRoundCovers round old new → HasCome start new rounds (failures + 1)
-after_round_failed start old new rounds failures round fault come sure none failed covers = record {
+pub after_round_failed : (start old new : EngineView) (rounds : History) (failures : ℕ) (calls : List EngineCall) (round : Round) (fault : DeviceFault) → HasCome start old rounds failures calls → IsLegalRound old.standing round → old.sure ≡ true → old.doubt ≡ None → (failed : HasFailedToMake round fault old new) → FailedRoundCovers round old new
+    → HasCome start new rounds (failures + 1) (calls ++ Failed (record { round = round; called = failed.called }) failed.device.stops.ops ∷ [])
+after_round_failed start old new rounds failures calls round fault come legal sure none failed covers = record {
   legal = come.legal;
   standing = failed.standing ∙ come.standing;
   count = most_then start.device.faults old.device.faults new.device.faults come.count failed.device.stops.rose;
   calm = λ calm. absurd (omega (arith, calm));
   rose = λ some. rose;
   each = one_failed start.device.faults old.device.faults new.device.faults failures come.each failed.device.stops.rose;
-  called = failure_called start old new rounds failures come.called come.standing round fault sure failed;
+  called = failure_called start old new rounds failures calls come.called come.standing round fault legal sure failed;
   quiet = λ calm. absurd (omega (arith, calm));
   covered = λ tale members begins.
-      let after = sealed_so_far tale members start old rounds failures come sure none begins in
+      let after = sealed_so_far tale members start old rounds failures calls come sure none begins in
       let tale_then : Tale = with_ops after.left.ops tale in
       let ready = ready_then tale old start.standing rounds come.standing after in
       record {
@@ -325,8 +327,9 @@ settled_state : (s : Standing) (rounds : History) (at : Standing) (called : Bool
 settled_state s rounds at true round standing = ap (λ (t : Standing). after_round t round) standing ∙ sym (state_after-append s rounds (round ∷ []))
 settled_state s rounds at false round standing = standing
 
-pub after_settled : (start old new : EngineView) (rounds : History) (failures : ℕ) → HasCome start old rounds failures → ((failed : FailedRound) → old.doubt ≡ Some failed → IsLegalRound old.standing failed.round) → old.sure ≡ false → HasSettled old new → SettleCovers old new → HasCome start new (settled_rounds rounds old.doubt) failures
-after_settled start old new rounds failures come legal unsure settled covers = by_doubt old.doubt refl
+pub after_settled : (start old new : EngineView) (rounds : History) (failures : ℕ) (calls : List EngineCall) → HasCome start old rounds failures calls → ((failed : FailedRound) → old.doubt ≡ Some failed → IsLegalRound old.standing failed.round) → old.sure ≡ false → HasSettled old new → SettleCovers old new
+    → HasCome start new (settled_rounds rounds old.doubt) failures (calls ++ Settled (settle_to (header_for new.standing) new.standing) ∷ [])
+after_settled start old new rounds failures calls come legal unsure settled covers = by_doubt old.doubt refl
   where
     ops : List LogOp
     ops = settle_to (header_for new.standing) new.standing
@@ -350,8 +353,8 @@ after_settled start old new rounds failures come legal unsure settled covers = b
     each : min (start.device.faults + failures) last_count ≤ new.device.faults
     each = omega (arith, come.each, settled.device.faults)
 
-    called : HasCalled start new (settled_rounds rounds old.doubt) failures
-    called = settling_called start old new rounds failures come.called come.standing unsure settled
+    called : HasCalled start new (settled_rounds rounds old.doubt) failures (calls ++ Settled ops ∷ [])
+    called = settling_called start old new rounds failures calls come.called come.standing unsure settled
 
     settled_held : old.doubt ≡ None → IsHeld old → IsHeld new
     settled_held none held = record { stands = settled.holds none held.stands; in_use = settled.in_use none held.in_use }
@@ -380,7 +383,7 @@ after_settled start old new rounds failures come legal unsure settled covers = b
         after_settling : settlings start.sure new.sure ≡ 1
         after_settling = (λ i. settlings (start_unsure calm i) (settled.sure i))
 
-    by_doubt : (doubt : Option FailedRound) → old.doubt ≡ doubt → HasCome start new (settled_rounds rounds doubt) failures
+    by_doubt : (doubt : Option FailedRound) → old.doubt ≡ doubt → HasCome start new (settled_rounds rounds doubt) failures (calls ++ Settled ops ∷ [])
     by_doubt None none = record {
       legal = come.legal;
       standing = settled.standing ∙ (ap (settled_standing old.standing) none ∙ come.standing);
@@ -388,7 +391,7 @@ after_settled start old new rounds failures come legal unsure settled covers = b
       calm = calm;
       rose = rose;
       each = each;
-      called = subst (λ (d : Option FailedRound). HasCalled start new (settled_rounds rounds d) failures) none called;
+      called = subst (λ (d : Option FailedRound). HasCalled start new (settled_rounds rounds d) failures (calls ++ Settled ops ∷ [])) none called;
       quiet = quiet;
       covered = λ tale members begins. record {
         decided = λ uncalled. inl (settled_found tale members old new start.standing rounds come.standing (covers.found (ap was_called none)) ((come.covered tale members begins).decided (ap was_called none)));
@@ -403,7 +406,7 @@ after_settled start old new rounds failures come legal unsure settled covers = b
       calm = calm;
       rose = rose;
       each = each;
-      called = subst (λ (d : Option FailedRound). HasCalled start new (settled_rounds rounds d) failures) is called;
+      called = subst (λ (d : Option FailedRound). HasCalled start new (settled_rounds rounds d) failures (calls ++ Settled ops ∷ [])) is called;
       quiet = quiet;
       covered = λ tale members begins. record {
         decided = λ uncalled. inl (by_called failed.called refl tale members begins);
@@ -478,15 +481,16 @@ failed_doubt tale old new s rounds failed standing is called covers doubt = go d
           state = inr (joined.rounds ∙ (append-nil (rounds_in doubt.history) ∙ told), stays.still);
         }
 
-pub after_settling_failed : (start old new : EngineView) (rounds : History) (failures : ℕ) (fault : DeviceFault) → HasCome start old rounds failures → old.sure ≡ false → HasFailedToSettle fault old new → FailedSettleCovers old new → HasCome start new rounds (failures + 1)
-after_settling_failed start old new rounds failures fault come unsure failed covers = record {
+pub after_settling_failed : (start old new : EngineView) (rounds : History) (failures : ℕ) (calls : List EngineCall) (fault : DeviceFault) → HasCome start old rounds failures calls → old.sure ≡ false → (failed : HasFailedToSettle fault old new) → FailedSettleCovers old new
+    → HasCome start new rounds (failures + 1) (calls ++ FailedSettling failed.device.stops.ops ∷ [])
+after_settling_failed start old new rounds failures calls fault come unsure failed covers = record {
   legal = come.legal;
   standing = failed.standing ∙ come.standing;
   count = most_then start.device.faults old.device.faults new.device.faults come.count failed.device.stops.rose;
   calm = λ calm. absurd (omega (arith, calm));
   rose = λ some. rose;
   each = one_failed start.device.faults old.device.faults new.device.faults failures come.each failed.device.stops.rose;
-  called = failed_settling_called start old new rounds failures come.called come.standing fault unsure failed;
+  called = failed_settling_called start old new rounds failures calls come.called come.standing fault unsure failed;
   quiet = λ calm. absurd (omega (arith, calm));
   covered = λ tale members begins. record {
     decided = λ uncalled.

@@ -24,6 +24,7 @@ use Rattle.pb_layout_laws.proofs.ReadyWithOne.{only_member}
 use Rattle.pb_layout_laws.proofs.Rounds.{RiseFrom, rise_from_zero, rise-others, after_entries-other}
 use Rattle.pb_layout_laws.proofs.ToldCalls.{from_told, told_then_sealed, sealed_after, after_then}
 use Rattle.pb_pair.proofs.Told.{told_now}
+use Rattle.pb_engine.specs.Calls.{EngineCall}
 use Rattle.pb_engine.specs.Good.{BeginsAt, IsInDoubtAfter, IsDecidedAfter, IsCovered, settlings, HasCome}
 use Rattle.pb_engine.specs.Opening.{IsFresh, IsAdopted, IsAdoptRefusal}
 use Rattle.pb_engine.specs.View.{FailedRound, EngineView, was_called, settled_by, settled_standing}
@@ -184,8 +185,8 @@ covered_on tale members middle last s rounds more none standing (inr (unsure, no
       state = is.state;
     })
 
-pub come_on : (first middle last : EngineView) (rounds more : History) (failures others : ℕ) → HasCome first middle rounds failures → middle.doubt ≡ None → HasCome middle last more others → HasCome first last (rounds ++ more) (failures + others)
-come_on first middle last rounds more failures others one none two = record {
+pub come_on : (first middle last : EngineView) (rounds more : History) (failures others : ℕ) (calls later : List EngineCall) → HasCome first middle rounds failures calls → middle.doubt ≡ None → HasCome middle last more others later → HasCome first last (rounds ++ more) (failures + others) (calls ++ later)
+come_on first middle last rounds more failures others calls later one none two = record {
   legal = legal-append first.standing rounds more one.legal (subst (λ (s : Standing). IsLegal s more) one.standing two.legal);
   standing = two.standing ∙ (ap (λ (s : Standing). state_after s more) one.standing ∙ sym (state_after-append first.standing rounds more));
   count = omega (arith, one.count, two.count);
@@ -195,7 +196,7 @@ come_on first middle last rounds more failures others one none two = record {
     | inr before ↦ rose_on first.device.faults middle.device.faults last.device.faults (one.rose before) two.count
   ];
   each = omega (arith, one.each, two.each);
-  called = called_on first middle last rounds more failures others one.called one.standing two.called;
+  called = called_on first middle last rounds more failures others calls later one.called one.standing two.called;
   quiet = λ calm.
       let before = one.quiet (calm_before calm) in
       let after = two.quiet (calm_after calm) in

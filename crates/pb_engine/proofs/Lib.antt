@@ -6,4 +6,5 @@ pub mod InUse
 pub mod Pairs
 pub mod Joining
 pub mod Known
+pub mod MadeFor
 pub mod Served

@@ -1,9 +1,11 @@
 -- The calls of an engine since it was opened or made, and the device operations that each of them added.
-use Rattle.std.specs.Prelude.{◌≡◌, ℕ, suc, Bool, true, false, List, [], ◌∷◌, ◌++◌, Option, Some, None, option_map}
+use Rattle.std.specs.Prelude.{◌≡◌, ℕ, suc, Bool, true, false, List, [], ◌∷◌, ◌++◌, Contains, Option, Some, None, option_map}
 use Rattle.pb_pmem.specs.declared.line.Line.{Line}
 use Rattle.pb_pmem.specs.declared.log.LogOp.{LogOp}
 use Rattle.pb_pmem.specs.Operations.{with_ops, IsFailedPrefix}
-use Rattle.pb_object.specs.History.{Round, History, state_after}
+use Rattle.pb_object.specs.declared.request.Ask.{Ask}
+use Rattle.pb_object.specs.declared.request.Reply.{Reply}
+use Rattle.pb_object.specs.History.{Round, History, IsLegalRound, state_after}
 use Rattle.pb_object.specs.Standing.{Standing}
 use Rattle.pb_layout.specs.RegionOps.{settle_to}
 use Rattle.pb_layout.specs.Represents.{header_for}
@@ -67,10 +69,10 @@ pub record IsCutRoundOps (s : Standing) (failed : FailedRound) (ops : List LogOp
 abbrev pub settling_ops : Standing → Progress → List LogOp
 settling_ops s p = settle_to (header_for (state_after s (settled_rounds p.rounds p.doubt))) (state_after s (settled_rounds p.rounds p.doubt))
 
--- a round is asked of an engine that is sure, and settling of one that isn't
+-- a round is asked of an engine that is sure, a legal one also where it fails, and settling of one that isn't
 abbrev pub IsCall : Standing → Progress → EngineCall → Type 0
 IsCall s p (Made round ops) = (p.sure ≡ true) × IsRoundOps (state_after s p.rounds) round ops
-IsCall s p (Failed failed ops) = (p.sure ≡ true) × IsCutRoundOps (state_after s p.rounds) failed ops
+IsCall s p (Failed failed ops) = (p.sure ≡ true) × IsLegalRound (state_after s p.rounds) failed.round × IsCutRoundOps (state_after s p.rounds) failed ops
 IsCall s p (Settled ops) = (p.sure ≡ false) × (ops ≡ settling_ops s p)
 IsCall s p (FailedSettling ops) = (p.sure ≡ false) × IsFailedPrefix (settling_ops s p) ops
 
@@ -97,10 +99,25 @@ failure_count (Failed failed ops ∷ calls) = suc (failure_count calls)
 failure_count (Settled ops ∷ calls) = failure_count calls
 failure_count (FailedSettling ops ∷ calls) = suc (failure_count calls)
 
+-- a round has an entry of this request
+pub record HasRequest (round : Round) (ask : Ask) : Type 0 where
+  pub reply : Reply
+  pub entry : Contains round.entries (record { client = ask.client; number = ask.number; op = ask.op; reply = reply })
+
+-- each call that failed was made for one of these requests, in their order; a round that failed has its request
+abbrev pub AreMadeFor : List EngineCall → List Ask → Type 0
+AreMadeFor [] [] = Unit {0}
+AreMadeFor [] (ask ∷ asks) = ⊥
+AreMadeFor (Made round ops ∷ calls) asks = AreMadeFor calls asks
+AreMadeFor (Failed failed ops ∷ calls) [] = ⊥
+AreMadeFor (Failed failed ops ∷ calls) (ask ∷ asks) = HasRequest failed.round ask × AreMadeFor calls asks
+AreMadeFor (Settled ops ∷ calls) asks = AreMadeFor calls asks
+AreMadeFor (FailedSettling ops ∷ calls) [] = ⊥
+AreMadeFor (FailedSettling ops ∷ calls) (ask ∷ asks) = AreMadeFor calls asks
+
 -- From the start an engine has come to what it is by these calls alone: they recorded these rounds, and so many of them failed. Where none
 -- was made it is as it was
-pub record HasCalled (start now : EngineView) (rounds : History) (failures : ℕ) : Type 0 where
-  pub calls : List EngineCall
+pub record HasCalled (start now : EngineView) (rounds : History) (failures : ℕ) (calls : List EngineCall) : Type 0 where
   pub are : AreCalls start.standing (progress_of [] start) calls
   pub come : after_calls (progress_of [] start) calls ≡ progress_of rounds now
   pub failed : failure_count calls ≡ failures

@@ -11,7 +11,7 @@ use Rattle.pb_layout.specs.Doubt.{either_state, IsRoundInDoubt, HasRoundLanded}
 use Rattle.pb_layout.specs.LogHistory.{LoggedRound, rounds_in, AreSealed}
 use Rattle.pb_layout.specs.Recovered.{Represents}
 use Rattle.pb_layout.specs.ToldExits.{IsCoveredExit, IsSealedAfter, IsReadyWith, contents_of}
-use Rattle.pb_engine.specs.Calls.{HasCalled}
+use Rattle.pb_engine.specs.Calls.{EngineCall, HasCalled}
 use Rattle.pb_engine.specs.View.{FailedRound, EngineView, AreKnown, was_called, IsHeld}
 
 -- Where the calls begin: the device tells its log, holds the standing and is ready; with the standing alone, where the engine is sure
@@ -83,17 +83,17 @@ pub record IsQuiet (start now : EngineView) : Type 0 where
   pub known : start.sure ≡ true → AreKnown start → AreKnown now
   pub holds : start.doubt ≡ None → IsHeld start → IsHeld now
 
--- So an engine has come from the start to this by these rounds, one after the other, with so many calls that failed: the rounds are
--- legal, and the standing is the one after them; the device's count of faults stayed where no call failed, and rose with each that did; its
+-- So an engine has come from the start to this by these rounds, one after the other, and by these calls, so many of which failed: the rounds
+-- are legal, and the standing is the one after them; the device's count of faults stayed where no call failed, and rose with each that did; its
 -- log has grown by the operations of these calls; and what is said above holds where the device tells its log and was ready
-pub record HasCome (start now : EngineView) (rounds : History) (failures : ℕ) : Type 0 where
+pub record HasCome (start now : EngineView) (rounds : History) (failures : ℕ) (calls : List EngineCall) : Type 0 where
   pub legal : IsLegal start.standing rounds
   pub standing : now.standing ≡ state_after start.standing rounds
   pub count : start.device.faults ≤ now.device.faults
   pub calm : failures ≡ 0 → now.device.faults ≡ start.device.faults
   pub rose : failures ≢ 0 → Rose start.device.faults now.device.faults
   pub each : min (start.device.faults + failures) last_count ≤ now.device.faults
-  pub called : HasCalled start now rounds failures
+  pub called : HasCalled start now rounds failures calls
   pub quiet : failures ≡ 0 → IsQuiet start now
   pub covered : (tale : Tale) (members : List (Option Standing)) → BeginsAt tale members start → IsCovered tale members start.standing now rounds
   pub cost : (tale : Tale) → start.device.told ≡ Some tale → start.doubt ≡ None → failures ≡ 0 → HasCost tale start now rounds

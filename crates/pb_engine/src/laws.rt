@@ -7,13 +7,16 @@ ghost use Rattle.pb_object.specs.History.{Round, History, IsLegalRound, kept_by,
 ghost use Rattle.pb_object.specs.Standing.{Standing, newest_of, side_count};
 ghost use Rattle.pb_engine.specs.Asks.{MayBeServed, asked_round};
 ghost use Rattle.pb_engine.specs.Covers.{RoundCovers, FailedRoundCovers, SettleCovers, FailedSettleCovers};
-ghost use Rattle.pb_engine.specs.Calls.{settled_rounds};
+ghost use Rattle.pb_engine.specs.Calls.{EngineCall, Made, Failed, Settled, FailedSettling, settled_rounds};
 ghost use Rattle.pb_engine.specs.Good.{HasCome, BeginsAt};
 ghost use Rattle.pb_engine.specs.Outcomes.{HasMade, HasFailedToMake, HasSettled, HasFailedToSettle};
 ghost use Rattle.pb_engine.specs.View.{EngineView, FailedRound, IsEngine, IsInUse, IsKnown, was_called};
 ghost use Rattle.pb_pmem.specs.Device.{Device, Tale, IsReplay};
 ghost use Rattle.pb_pmem.specs.Operations.{with_ops};
 ghost use Rattle.pb_layout.specs.declared.header.Header.{Header};
+ghost use Rattle.pb_layout.specs.RegionOps.{settle_to};
+ghost use Rattle.pb_layout.specs.Represents.{header_for};
+ghost use Rattle.pb_engine.specs.Operations.{round_ops};
 ghost use Rattle.pb_layout.specs.ToldExits.{IsReadyWith, StaysFound};
 ghost use Rattle.pb_engine.specs.Opening.{IsFresh, IsAdopted, IsAdoptRefusal};
 ghost use Rattle.pb_pmem.specs.declared.line.Line.{Line};
@@ -30,60 +33,61 @@ pub fn served_rounds_are_legal()
 
 /// Before its first call an engine has come nowhere.
 pub fn beginning()
-    ensures { (start : EngineView) → HasCome start start [] 0 }
+    ensures { (start : EngineView) → HasCome start start [] 0 [] }
 {}
 
 /// A round that was made is one more.
 pub fn after_a_round()
-    ensures { (start old new : EngineView) (rounds : History) (failures : ℕ) (round : Round)
-        → HasCome start old rounds failures
+    ensures { (start old new : EngineView) (rounds : History) (failures : ℕ) (calls : List EngineCall) (round : Round)
+        → HasCome start old rounds failures calls
         → IsLegalRound old.standing round
         → old.sure ≡ true
         → old.doubt ≡ None
-        → HasMade round old new
+        → (made : HasMade round old new)
         → RoundCovers round old new
-        → HasCome start new (rounds ++ round ∷ []) failures }
+        → HasCome start new (rounds ++ round ∷ []) failures (calls ++ Made round (round_ops old round made.lines) ∷ []) }
 {}
 
-/// One that failed is in doubt.
+/// A legal one that failed is in doubt.
 pub fn after_a_failed_round()
-    ensures { (start old new : EngineView) (rounds : History) (failures : ℕ) (round : Round) (fault : DeviceFault)
-        → HasCome start old rounds failures
+    ensures { (start old new : EngineView) (rounds : History) (failures : ℕ) (calls : List EngineCall) (round : Round) (fault : DeviceFault)
+        → HasCome start old rounds failures calls
+        → IsLegalRound old.standing round
         → old.sure ≡ true
         → old.doubt ≡ None
-        → HasFailedToMake round fault old new
+        → (failed : HasFailedToMake round fault old new)
         → FailedRoundCovers round old new
-        → HasCome start new rounds (failures + 1) }
+        → HasCome start new rounds (failures + 1) (calls ++ Failed (record { round = round; called = failed.called }) failed.device.stops.ops ∷ []) }
 {}
 
 /// Settling adds the round in doubt where its index word was called, and none else.
 pub fn after_settling()
-    ensures { (start old new : EngineView) (rounds : History) (failures : ℕ)
-        → HasCome start old rounds failures
+    ensures { (start old new : EngineView) (rounds : History) (failures : ℕ) (calls : List EngineCall)
+        → HasCome start old rounds failures calls
         → ((failed : FailedRound) → old.doubt ≡ Some failed → IsLegalRound old.standing failed.round)
         → old.sure ≡ false
         → HasSettled old new
         → SettleCovers old new
-        → HasCome start new (settled_rounds rounds old.doubt) failures }
+        → HasCome start new (settled_rounds rounds old.doubt) failures (calls ++ Settled (settle_to (header_for new.standing) new.standing) ∷ []) }
 {}
 
 /// Settling that failed changes nothing of that.
 pub fn after_failed_settling()
-    ensures { (start old new : EngineView) (rounds : History) (failures : ℕ) (fault : DeviceFault)
-        → HasCome start old rounds failures
+    ensures { (start old new : EngineView) (rounds : History) (failures : ℕ) (calls : List EngineCall) (fault : DeviceFault)
+        → HasCome start old rounds failures calls
         → old.sure ≡ false
-        → HasFailedToSettle fault old new
+        → (failed : HasFailedToSettle fault old new)
         → FailedSettleCovers old new
-        → HasCome start new rounds (failures + 1) }
+        → HasCome start new rounds (failures + 1) (calls ++ FailedSettling failed.device.stops.ops ∷ []) }
 {}
 
 /// Calls after other calls come to both, where nothing was in doubt between them.
 pub fn calls_after_calls()
-    ensures { (first middle last : EngineView) (rounds more : History) (failures others : ℕ)
-        → HasCome first middle rounds failures
+    ensures { (first middle last : EngineView) (rounds more : History) (failures others : ℕ) (calls later : List EngineCall)
+        → HasCome first middle rounds failures calls
         → middle.doubt ≡ None
-        → HasCome middle last more others
-        → HasCome first last (rounds ++ more) (failures + others) }
+        → HasCome middle last more others later
+        → HasCome first last (rounds ++ more) (failures + others) (calls ++ later) }
 {}
 
 /// An engine that was just made on a device that was ready with no region begins on one that is ready with the empty standing alone.

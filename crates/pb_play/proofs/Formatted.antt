@@ -32,7 +32,6 @@ use Rattle.pb_layout.specs.Shape.{IsHeader}
 use Rattle.pb_layout_laws.proofs.WritingRegion.{with_header}
 use Rattle.pb_core.specs.Client.{fresh_client, row_word}
 use Rattle.pb_core.specs.Fresh as core
-use Rattle.pb_core.specs.Fresh.{IsFresh}
 use Rattle.pb_core.specs.World.{NoCall}
 use Rattle.pb_play.specs.declared.memory.Memory.{Memory as CodeMemory}
 use Rattle.pb_play.specs.declared.seat.Seat.{Seat}

@@ -38,7 +38,7 @@ use Rattle.pb_layout_laws.proofs.Geometry.{cell_below, record_after_cells}
 use Rattle.pb_layout_laws.proofs.PutCells.{cells_of_a_round}
 use Rattle.pb_layout_laws.proofs.Rounds.{next_side, after_entries-kind_of}
 use Rattle.pb_core.specs.World as core
-use Rattle.pb_core.specs.World.{Put, puts_at, puts_between, puts_of, WritesLine, AreFree, IsRoundPlan}
+use Rattle.pb_core.specs.World.{Put, puts_at, puts_between, WritesLine, AreFree, IsRoundPlan}
 use Rattle.pb_core.specs.Play.{ListsRising, IsPlayedPlan}
 use Rattle.pb_engine.specs.Operations.{put_ops, puts_from, cell_ops}
 use Rattle.pb_queue.proofs.CellExits.{cells_there}

@@ -9,7 +9,7 @@ use Rattle.pb_object.specs.Standing.{Standing, newest_of}
 use Rattle.pb_core.specs.declared.event.Stepped.{Stepped}
 use Rattle.pb_core.specs.declared.event.Stepped.TheVariants.{Went}
 use Rattle.pb_core.specs.Memory as core
-use Rattle.pb_core.specs.Memory.{Memory, clients_of, known, shown, side_of, round_of_turn}
+use Rattle.pb_core.specs.Memory.{Memory, clients_of, shown, side_of, round_of_turn}
 use Rattle.pb_core.specs.MemoryParts.{IsMemory, AreSeen}
 use Rattle.pb_core.specs.WordMoves.{due_number, scanned, passing_over, meeting, scanning_code, scanning_first, scanning_second, scanning_own, scanning_other}
 use Rattle.pb_core.proofs.Scans.{the_scan, known_shown}

@@ -9,7 +9,7 @@ use Rattle.pb_core.specs.declared.event.Stepped.{Stepped}
 use Rattle.pb_core.specs.declared.event.Stepped.TheVariants.{Went, Done}
 use Rattle.pb_core.specs.Client as core
 use Rattle.pb_core.specs.Client.{ask_word, entry_by}
-use Rattle.pb_core.specs.Memory.{Memory, Held, with_at, with_client, clients_of, shown, round_of_turn, side_of}
+use Rattle.pb_core.specs.Memory.{Memory, Held, with_at, clients_of, shown, round_of_turn, side_of}
 use Rattle.pb_core.specs.Memory as core_memory
 use Rattle.pb_core.specs.MemoryParts.{IsMemory, HasRead}
 use Rattle.pb_core.specs.WordMoves.{go_to, answered, steps_to, storing, announcing, confirming, taking_sure, taking_unsure}

@@ -11,10 +11,10 @@ use Rattle.pb_core.specs.declared.event.Event.TheVariants.{Ask as AskEvent, Step
 use Rattle.pb_core.specs.declared.event.Stepped.{Stepped}
 use Rattle.pb_core.specs.declared.event.Stepped.TheVariants.{Impossible}
 use Rattle.pb_core.specs.DeviceParts.{IsWorld}
-use Rattle.pb_core.specs.Memory.{Held, Work, NoWork, Settling, Scanning, Calling, Filling, Noting, GivingUp, clients_of}
+use Rattle.pb_core.specs.Memory.{Held, clients_of}
 use Rattle.pb_core.specs.Possible.{IsPossible, IsCallDue, IsReopening, MayAsk, MayStep, MayFail, MayCrash}
 use Rattle.pb_core.specs.WordMoves.{IsRunning}
-use Rattle.pb_core.specs.World.{Progress, InCall, World}
+use Rattle.pb_core.specs.World.{InCall, World}
 use Rattle.pb_core.specs.Play.{IsCallable, IsReady, IsCalling, ComesBefore, PlaysMove, NextPlayed}
 use Rattle.pb_play.specs.declared.world.World.{World as CodeWorld}
 use Rattle.pb_play.specs.Device.{ShowsDevice}

@@ -1,5 +1,5 @@
 //! The calls of the device that are being made.
-ghost use Rattle.std.specs.Prelude.{◌≡◌, ℕ, ◌+◌, ◌-◌, ◌↔◌, ◌<◌, ◌≤◌, true, false, List, [], ◌∷◌, ◌++◌, length, take, option_to_list, IfOk, IsTrue, vec_capacity};
+ghost use Rattle.std.specs.Prelude.{◌≡◌, ◌+◌, ◌-◌, ◌↔◌, ◌<◌, ◌≤◌, true, false, length, IfOk, IsTrue};
 ghost use Rattle.pb_pmem.specs.Device.{Tale};
 ghost use Rattle.pb_image.specs.Fails.{left_by};
 ghost use Rattle.pb_layout.specs.declared.header.Header.{Header};

@@ -3,7 +3,7 @@ ghost use Rattle.std.specs.Prelude.{◌≡◌, ℕ, ◌+◌, ◌≤◌, ◌<◌,
 ghost use Rattle.pb_pmem.specs.declared.line.TheConstants.{LINES};
 ghost use Rattle.pb_pmem.specs.declared.log.LogOp.{LogOp};
 ghost use Rattle.pb_pmem.specs.Contents.{applied, contents};
-ghost use Rattle.pb_pmem.specs.Crash.{is_mark, is_sync, marks, least_cut, greatest_cut, through_mark, after_mark, until_mark, is_back_of, line_written, is_backed, backed_writes, unbacked_writes};
+ghost use Rattle.pb_pmem.specs.Crash.{is_mark, is_sync, marks, least_cut, through_mark, after_mark, until_mark, is_back_of, line_written, is_backed, backed_writes, unbacked_writes};
 ghost use Rattle.pb_image.specs.Picked.{flood_of, flooded, with_loose, picked};
 ghost use Rattle.pb_image.specs.State.{is_within};
 ghost use Rattle.pb_core.specs.declared.event.Event.{Event};

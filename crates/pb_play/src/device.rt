@@ -1,9 +1,9 @@
 //! The device of the core: its lines as a crash left them, the operations since then, and its lines now.
-ghost use Rattle.std.specs.Prelude.{◌≡◌, ◌+◌, ◌<◌, ◌≤◌, [], ◌++◌, length, replicate, slice_set, IfOk, IsTrue, vec_capacity, option_to_list};
+ghost use Rattle.std.specs.Prelude.{◌≡◌, ◌+◌, ◌<◌, ◌≤◌, [], ◌++◌, length, slice_set, IfOk, IsTrue, vec_capacity, option_to_list};
 ghost use Rattle.std.specs.List.{list_all};
 ghost use Rattle.pb_pmem.specs.declared.line.TheConstants.{LINES};
 ghost use Rattle.pb_pmem.specs.Contents.{applied, contents};
-ghost use Rattle.pb_pmem.specs.Lines.{with_word, line_at, zero_line};
+ghost use Rattle.pb_pmem.specs.Lines.{with_word, line_at};
 ghost use Rattle.pb_image.specs.Fails.{filled, left_by};
 ghost use Rattle.pb_image.specs.State.{is_within};
 

@@ -1,10 +1,9 @@
 //! The round that begins: its record, its replies, and the calls that store it.
-ghost use Rattle.std.specs.Prelude.{◌≡◌, ◌≢◌, ℕ, ◌+◌, ◌*◌, ◌<◌, ◌≤◌, false, [], length, vec_capacity};
+ghost use Rattle.std.specs.Prelude.{◌≡◌, ℕ, ◌+◌, ◌<◌, ◌≤◌, false, [], length, vec_capacity};
 ghost use Rattle.pb_pmem.specs.declared.line.TheConstants.{LINES};
 ghost use Rattle.pb_object.specs.declared.kind.Kind.TheVariants.{Queue};
 ghost use Rattle.pb_object.specs.Standing.{Standing};
 ghost use Rattle.pb_layout.specs.Header.{record_length};
-ghost use Rattle.pb_layout.specs.Record.{count_line_of};
 ghost use Rattle.pb_core.specs.DeviceParts.{IsWorld};
 ghost use Rattle.pb_core.specs.Memory.{Held, clients_of};
 ghost use Rattle.pb_core.specs.World.{World as CoreWorld};
@@ -13,7 +12,7 @@ ghost use Rattle.pb_engine.specs.Next.{IsBegun};
 ghost use Rattle.pb_play.specs.Items.{ItemsFit};
 ghost use Rattle.pb_play.specs.Rounds.{RepeatsRows, asks_of, MayBegin, MakesRecord};
 ghost use Rattle.pb_play.specs.Seats.{begins_round};
-ghost use Rattle.pb_play.specs.Shape.{AreWithin, IsCalls};
+ghost use Rattle.pb_play.specs.Shape.{AreWithin};
 ghost use Rattle.pb_play.specs.Worlds.{IsBuilt, IsHeldFor, ShowsWorld, GoesOn};
 
 use crate::items::Items;

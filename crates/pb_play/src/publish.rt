@@ -1,6 +1,6 @@
 //! Filling the next reply row, publishing, and giving up.
-ghost use Rattle.std.specs.Prelude.{◌≡◌, ◌≢◌, ◌+◌, ◌*◌, ◌%◌, ◌-◌, ◌<◌, ◌≤◌};
-ghost use Rattle.pb_play.specs.Seats.{seat_of, at_work, stores_row, fills, row_with, with_published, counted, goes_to, is_answered, notes, gives_up};
+ghost use Rattle.std.specs.Prelude.{◌≡◌, ◌≢◌, ◌+◌, ◌*◌, ◌%◌, ◌-◌, ◌<◌};
+ghost use Rattle.pb_play.specs.Seats.{seat_of, stores_row, fills, row_with, with_published, counted, goes_to, is_answered, notes, gives_up};
 ghost use Rattle.pb_play.specs.Steps.{StepsWord};
 
 use crate::memory::Memory;

@@ -1,5 +1,5 @@
 //! The scan: the holder looks at each client's request.
-ghost use Rattle.std.specs.Prelude.{◌≡◌, ◌≢◌, ◌+◌, ◌↔◌, ◌<◌, IsTrue};
+ghost use Rattle.std.specs.Prelude.{◌≡◌, ◌+◌, ◌↔◌, ◌<◌, IsTrue};
 ghost use Rattle.pb_play.specs.Seats.{seat_of, at_work, sees};
 ghost use Rattle.pb_play.specs.Steps.{StepsHeld};
 

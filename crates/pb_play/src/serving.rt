@@ -1,6 +1,5 @@
 //! Applying the requests of a round to an object with one side.
 ghost use Rattle.std.specs.Prelude.{◌≡◌, ◌+◌, ◌*◌, ◌<◌, length, slice_set};
-ghost use Rattle.pb_object.specs.declared.kind.Kind.{Kind};
 ghost use Rattle.pb_object.specs.declared.kind.Kind.TheVariants.{Heap};
 ghost use Rattle.pb_object.specs.Object.{State};
 ghost use Rattle.pb_object.specs.ObjectLines.{kind_of, size_of, LinesRepresent};

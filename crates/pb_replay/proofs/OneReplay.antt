@@ -11,7 +11,7 @@ use Rattle.pb_layout.specs.Recovered.{Represents}
 use Rattle.pb_layout.proofs.OneRecovery.{represents_one}
 use Rattle.pb_core.specs.declared.event.Event.{Event}
 use Rattle.pb_core.specs.declared.event.Stepped.{Stepped}
-use Rattle.pb_core.specs.Play.{NextPlayed, Play}
+use Rattle.pb_core.specs.Play.{Play}
 use Rattle.pb_core.specs.Possible.{IsPossible}
 use Rattle.pb_core.specs.World.{World}
 use Rattle.pb_core.proofs.Determined.{play_one}
@@ -27,7 +27,7 @@ use Rattle.pb_script.specs.Words.{lines}
 use Rattle.pb_script.proofs.Arguments.{each_front}
 use Rattle.pb_script.proofs.Steps.{request_lines_append}
 use Rattle.pb_replay.specs.Replay.{events_of, AreMade, IsReplayed, AreMadeBefore, NamesNoEvent, NamesImpossible, IsRefusedLine, HasBadEvent}
-use Rattle.pb_replay.proofs.Playings.{events-none, events-push}
+use Rattle.pb_replay.proofs.Playings.{events-push}
 
 -- Schedules
 

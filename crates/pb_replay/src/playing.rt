@@ -1,5 +1,5 @@
 //! A schedule that is being played.
-ghost use Rattle.std.specs.Prelude.{◌≡◌, ℕ, ◌+◌, ◌<◌, ◌≤◌, ◌^◌, List, [], ◌∷◌, ◌++◌, true, length, IfOk, OnOk};
+ghost use Rattle.std.specs.Prelude.{◌≡◌, ℕ, ◌+◌, ◌<◌, ◌^◌, List, [], ◌∷◌, ◌++◌, true, length, IfOk, OnOk};
 ghost use Rattle.pb_core.specs.declared.event.Event.{Event};
 ghost use Rattle.pb_layout.specs.declared.header.Header.{Header};
 ghost use Rattle.pb_script.specs.Events.{event_line};

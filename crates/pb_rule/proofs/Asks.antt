@@ -64,7 +64,7 @@ module _ {X : Type 0} (seen : X → EngineView) (kind : Kind) (start : EngineVie
     client_moves seen kind start r id v (asking ask v.body) v.notes (asking ask (r.m.book v.client)) (with_request_word v.client 1 ask.op.code r.m.requests) r.m.answers (set s.words word ask.op.code) here
         (subst (λ (c : ℕ). HasRun start (record (with_client c (asking ask (r.m.book c)) r.m) { requests = with_request_word c 1 ask.op.code r.m.requests })) next.client run)
         (subst (λ (p : ℕ). HasWords (record r.m { requests = with_request_word v.client 1 ask.op.code r.m.requests }) (set s.words p ask.op.code)) (sym (place ∙ ap (λ (c : ℕ). request_place c 1) next.client)) (request_stored v.client 1 ask.op.code own.there (omega arith) r.words))
-        (ap (asking ask) own.body) (ap is_holding stage) refl tt,
+        (ap (asking ask) own.body) (ap is_holding stage) refl tt (λ entry mine. mine),
     refl,
   )
     where
@@ -106,7 +106,7 @@ module _ {X : Type 0} (seen : X → EngineView) (kind : Kind) (start : EngineVie
     tt,
     subst (λ (t : Stage). Rule (record { words = set s.words word value; homes = s.homes; views = set s.views id (record v { body = go_to t v.body } ∷ []) })) (sym (ap next_stored stage))
         (client_moves seen kind start r id v (go_to (Storing (suc place)) v.body) v.notes (go_to (Storing (suc place)) (r.m.book v.client)) (with_request_word v.client (suc place) value r.m.requests) r.m.answers (set s.words word value) here run words
-        (ap (go_to (Storing (suc place))) own.body) (ap is_holding stage) refl tt),
+        (ap (go_to (Storing (suc place))) own.body) (ap is_holding stage) refl tt (λ entry mine. mine)),
     refl,
   )
     where
@@ -139,7 +139,7 @@ module _ {X : Type 0} (seen : X → EngineView) (kind : Kind) (start : EngineVie
     keeps,
     tt,
     client_moves seen kind start r id v (go_to Looking v.body) v.notes (go_to Looking (r.m.book v.client)) (with_request_word v.client 0 number r.m.requests) r.m.answers (set s.words word number) here run words
-        (ap (go_to Looking) own.body) (ap is_holding stage) refl tt,
+        (ap (go_to Looking) own.body) (ap is_holding stage) refl tt (λ entry mine. mine),
     refl,
   )
     where

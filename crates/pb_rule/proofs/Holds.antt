@@ -11,7 +11,7 @@ use Rattle.pb_object.specs.declared.request.Ask.{Ask}
 use Rattle.pb_object.specs.Standing.{Standing, newest_of}
 use Rattle.pb_pmem.specs.Count.{Rose}
 use Rattle.pb_core.specs.declared.event.Stepped.TheVariants.{Went}
-use Rattle.pb_core.specs.Client.{Client, is_announced, row_word}
+use Rattle.pb_core.specs.Client.{Client, is_idle, is_announced, row_word}
 use Rattle.pb_core.specs.HolderMoves.{round_by, Begins}
 use Rattle.pb_core.specs.Laws.{AreDue}
 use Rattle.pb_object.specs.History.{Round}
@@ -23,14 +23,16 @@ use Rattle.pb_core.proofs.Holding.{begins_due, begins_own}
 use Rattle.pb_core.proofs.Scans.{the_scan, known_shown}
 use Rattle.pb_core.proofs.Turns.{the_holder}
 use Rattle.pb_engine.specs.Asks.{side_asked}
+use Rattle.pb_engine.specs.Calls.{progress_of, AreMadeFor}
 use Rattle.pb_engine.specs.View.{EngineView}
 use Rattle.pb_engine.specs.Good.{HasCome}
 use Rattle.pb_rule.specs.View.{Look, Met, OwnRound, PassView}
 use Rattle.pb_rule.specs.Holding.{part_place, IsScanPlace, notes_now}
 use Rattle.pb_rule.specs.Plays.{Seated, the_view, HoldsSlot, engine_before, engine_now, scanning_now, filling_now, kept_number, ask_of, seen_with, part_found, scan_found, looked_by, scanned_on, AsksFor, ScanIsOver, scan_step, next_filled, own_by, filled_on, fill_step, noted, note_step}
 use Rattle.pb_rule.specs.Ready.{Ready, IsReadyFor}
-use Rattle.pb_rule.specs.Rule.{request_place, row_place, HasWords, IsTied, LiesAt, IsOwn, IsViewOf, Fault, AreApart, met_if, met_by, HasRun, Keeps, failed_calls, recorded_by, AreOfClients}
+use Rattle.pb_rule.specs.Rule.{request_place, row_place, HasWords, IsTied, LiesAt, IsOwn, IsViewOf, Fault, AreApart, met_if, met_by, HasRun, Keeps, failed_calls, fault_asks, asked_by, failed_asks, AreNextAtSettling, recorded_by, AreOfClients}
 use Rattle.pb_rule.proofs.Known.{tied_clients}
+use Rattle.pb_rule.proofs.MadeRounds.{makers_stay}
 use Rattle.pb_rule.proofs.Movers.{own_view, running, is_memory, keeps_rule, others_stay, held_lonely}
 use Rattle.pb_rule.proofs.Prepared.{called_to, IsPrepared, HasTurn, has_turn, prepares}
 use Rattle.pb_rule.proofs.Rounds.{may_be_served, seen_side}
@@ -48,15 +50,20 @@ asks_for s side low high requests c (ask ∷ asks) (inr later) seen =
 
 -- Faults in order
 
-apart_more : (low : ℕ) (faults : List Fault) (high client from to : ℕ) → high ≤ from → Rose from to → AreApart low faults high → AreApart low (faults ++ record { client = client; met = record { from = from; to = to } } ∷ []) to
-apart_more low [] high client from to after rose apart =
+apart_more : (low : ℕ) (faults : List Fault) (high client : ℕ) (ask : Ask) (from to : ℕ) → high ≤ from → Rose from to → AreApart low faults high → AreApart low (faults ++ record { client = client; met = record { ask = ask; from = from; to = to } } ∷ []) to
+apart_more low [] high client ask from to after rose apart =
     (omega (arith, after, apart), rose, omega arith)
-apart_more low (fault ∷ faults) high client from to after rose apart =
-    (apart.0, apart.1, apart_more fault.met.to faults high client from to after rose apart.2)
+apart_more low (fault ∷ faults) high client ask from to after rose apart =
+    (apart.0, apart.1, apart_more fault.met.to faults high client ask from to after rose apart.2)
 
-clients_more : (clients : ℕ) (faults : List Fault) (client : ℕ) (met : Met) → client < clients → AreOfClients clients faults → AreOfClients clients (faults ++ record { client = client; met = met } ∷ [])
-clients_more clients [] client met below are = (below, tt)
-clients_more clients (fault ∷ faults) client met below are = (are.0, clients_more clients faults client met below are.1)
+clients_more : (clients : ℕ) (faults : List Fault) (client : ℕ) (met : Met) → client < clients → met.ask.client ≡ client → AreOfClients clients faults → AreOfClients clients (faults ++ record { client = client; met = met } ∷ [])
+clients_more clients [] client met below own are = (below, own, tt)
+clients_more clients (fault ∷ faults) client met below own are =
+    (are.0, are.1, clients_more clients faults client met below own are.2)
+
+asks_more : (faults : List Fault) (fault : Fault) → fault_asks (faults ++ fault ∷ []) ≡ fault_asks faults ++ fault.met.ask ∷ []
+asks_more [] fault = refl
+asks_more (first ∷ faults) fault = ap (λ (asks : List Ask). first.met.ask ∷ asks) (asks_more faults fault)
 
 met_own : (client : ℕ) (faults : List Fault) (met : Met) → met_by client (faults ++ record { client = client; met = met } ∷ []) ≡ met_by client faults ++ met ∷ []
 met_own client [] met = ap (λ (b : Bool). met_if b met []) (eq-eqb client client refl)
@@ -92,13 +99,26 @@ module _ {X : Type 0} (seen : X → EngineView) (kind : Kind) (start : EngineVie
       → HasRun start (record (called_to r.m ahead engine count work) { rows = rows; noted = noted })
       → HasWords (record r.m { rows = rows; noted = noted }) words
       → IsTied kind start (called_to r.m ahead engine count from) now r.faults → failed_calls from r.faults ≡ failed_calls work later
+      → failed_asks from (asked_by r.m.owner r.m.book) r.faults ≡ failed_asks work (asked_by r.m.owner r.m.book) later
       → AreApart 0 later noted → AreOfClients (clients_of r.m) later → met ≡ met_by v.client later → ((d : ℕ) → d ≢ v.client → met_by d later ≡ met_by d r.faults)
       → done ≡ work → IsOwn r.m.start r.m.published ahead own
       → Rule (record { words = words; homes = s.homes; views = set s.views id (record v { looked = looked; met = met; work = done; hand = Some now; own = own } ∷ []) })
-  goes_on {s} r id v before ahead engine count noted from work rows now looked met done own later words at turn run has tied counted apart theirs met_is others done_is owns =
+  goes_on {s} r id v before ahead engine count noted from work rows now looked met done own later words at turn run has tied counted asked apart theirs met_is others done_is owns =
       keeps_rule seen kind start r id v (record v { looked = looked; met = met; work = done; hand = Some now; own = own }) new now later words s.homes at run
       (words_of new words has refl refl has.turn has.noted has.requests has.rows)
-      (record { standing = tied.standing; count = tied.count; suits = tied.suits; come = subst (HasCome start now (recorded_by engine ahead r.m.published)) counted tied.come; sound = tied.sound })
+      (record {
+        standing = tied.standing;
+        count = tied.count;
+        suits = tied.suits;
+        calls = tied.calls;
+        come = subst (λ (failures : ℕ). HasCome start now (recorded_by engine ahead r.m.published) failures tied.calls) counted tied.come;
+        called_for = record {
+          failed = subst (AreMadeFor tied.calls) asked tied.called_for.failed;
+          next = subst (AreNextAtSettling start.standing (progress_of [] start) tied.calls) asked tied.called_for.next;
+          made = makers_stay (called_to r.m ahead engine count from) new tied.calls refl (λ d entry mine. mine) (λ round unpublished. inr (record { recorded = unpublished.recorded; ahead = unpublished.ahead; own = unpublished.own })) tied.called_for.made;
+        };
+        sound = tied.sound;
+      })
       (subst (λ (o : Owner). LiesAt seen o now s.homes) (sym turn.owner) (subst (λ (o : Owner). LiesAt seen o r.engine s.homes) turn.owner r.lies))
       r.below apart theirs refl
       (record {
@@ -137,6 +157,7 @@ module _ {X : Type 0} (seen : X → EngineView) (kind : Kind) (start : EngineVie
     pub run : HasRun start (record m { work = next })
     pub is : work ≡ next
     pub quiet : (faults : List Fault) → failed_calls next faults ≡ length faults
+    pub asks : (ask : Ask) (faults : List Fault) → failed_asks next ask faults ≡ fault_asks faults
 
   scans : {s : State (Option X) (List PassView)} (r : Rule s) (c : ℕ) (m : Memory) (now : EngineView) (side client found : ℕ) (part : Part) (asks : List Ask) → HasRun start m → m.owner ≡ r.m.owner → c < clients_of m → client < clients_of m → m.owner ≡ Held c side → now.standing ≡ known m
       → m.work ≡ Scanning client part asks → found ≡ m.requests client (part_place part) → Scanned m (part_found (kept_number now.standing) side found client part asks)
@@ -151,30 +172,35 @@ module _ {X : Type 0} (seen : X → EngineView) (kind : Kind) (start : EngineVie
         run = step_on r c m _ run owner there (meeting (record { side = side; holds = holds; d = d; seen = asks; there = inside; at = at; due = sym found_is ∙ (eqb-true _ _ e ∙ due); is = refl; says = refl }));
         is = ap (λ (n : ℕ). Scanning d (AtCode n) asks) found_is;
         quiet = λ faults. refl;
+        asks = λ ask faults. refl;
       }
       go false e = record {
         next = Scanning (suc d) AtNumber asks;
         run = step_on r c m _ run owner there (passing_over (record { side = side; holds = holds; d = d; seen = asks; there = inside; at = at; other = λ same. eqb-false _ _ e (found_is ∙ (same ∙ sym due)); is = refl; says = refl }));
         is = refl;
         quiet = λ faults. refl;
+        asks = λ ask faults. refl;
       }
   scans r c m now side d found (AtCode number) asks run owner there inside holds standing at found_is = record {
     next = Scanning d (AtFirst number (m.requests d 1)) asks;
     run = step_on r c m _ run owner there (scanning_code (record { side = side; holds = holds; d = d; seen = asks; number = number; at = at; is = refl; says = refl }));
     is = ap (λ (n : ℕ). Scanning d (AtFirst number n) asks) found_is;
     quiet = λ faults. refl;
+    asks = λ ask faults. refl;
   }
   scans r c m now side d found (AtFirst number code) asks run owner there inside holds standing at found_is = record {
     next = Scanning d (AtSecond number code (m.requests d 2)) asks;
     run = step_on r c m _ run owner there (scanning_first (record { side = side; holds = holds; d = d; seen = asks; number = number; code = code; at = at; is = refl; says = refl }));
     is = ap (λ (n : ℕ). Scanning d (AtSecond number code n) asks) found_is;
     quiet = λ faults. refl;
+    asks = λ ask faults. refl;
   }
   scans r c m now side d found (AtSecond number code a) asks run owner there inside holds standing at found_is = record {
     next = Scanning d (AtThird number code a (m.requests d 3)) asks;
     run = step_on r c m _ run owner there (scanning_second (record { side = side; holds = holds; d = d; seen = asks; number = number; code = code; a = a; at = at; is = refl; says = refl }));
     is = ap (λ (n : ℕ). Scanning d (AtThird number code a n) asks) found_is;
     quiet = λ faults. refl;
+    asks = λ ask faults. refl;
   }
   scans r c m now side d found (AtThird number code a b) asks run owner there inside holds standing at found_is = go (eqb (side_of (scanned m d number code a b).op) side) refl
     where
@@ -188,12 +214,14 @@ module _ {X : Type 0} (seen : X → EngineView) (kind : Kind) (start : EngineVie
         run = step_on r c m _ run owner there (scanning_own (record { side = side; holds = holds; d = d; seen = asks; number = number; code = code; a = a; b = b; at = at; same = eqb-true _ _ e; is = refl; says = refl }));
         is = ap (λ (n : ℕ). Scanning (suc d) AtNumber (asks ++ ask_of d number code a b n ∷ [])) found_is;
         quiet = λ faults. refl;
+        asks = λ ask faults. refl;
       }
       go false e = record {
         next = Scanning (suc d) AtNumber asks;
         run = step_on r c m _ run owner there (scanning_other (record { side = side; holds = holds; d = d; seen = asks; number = number; code = code; a = a; b = b; at = at; other = eqb-false _ _ e; is = refl; says = refl }));
         is = refl;
         quiet = λ faults. refl;
+        asks = λ ask faults. refl;
       }
 
   -- a scan that is over
@@ -281,7 +309,7 @@ module _ {X : Type 0} (seen : X → EngineView) (kind : Kind) (start : EngineVie
 
       rule : Rule (record { words = set s.words word (get_or s.words word 0); homes = s.homes; views = set s.views id (scanned_on (engine_now seen me) (get_or s.words word 0) (the_view me) ∷ []) })
       rule = goes_on r id v (engine_before me) p.ahead p.engine p.count r.m.noted (scanning_now v.work) next.next r.m.rows now (v.looked ++ looked_by (kept_number now.standing) found (scanning_now v.work)) v.met (scan_found (kept_number now.standing) (side_of v.body.ask.op) found (scanning_now v.work)) v.own r.faults (set s.words word found) here turn next.run
-          (same_words seen kind start s.words word r.words) p.tied (ap (λ (w : Work). failed_calls w r.faults) scan.at ∙ sym (next.quiet r.faults)) r.apart r.clients (r.views id (v ∷ []) here).1 (λ d other. refl) work_is (p.stays never v.own turn.holder.own)
+          (same_words seen kind start s.words word r.words) p.tied (ap (λ (w : Work). failed_calls w r.faults) scan.at ∙ sym (next.quiet r.faults)) (ap (λ (w : Work). failed_asks w (asked_by r.m.owner r.m.book) r.faults) scan.at ∙ sym (next.asks (asked_by r.m.owner r.m.book) r.faults)) r.apart r.clients (r.views id (v ∷ []) here).1 (λ d other. refl) work_is (p.stays never v.own turn.holder.own)
 
       over : ScanIsOver (engine_now seen me) (scanned_on (engine_now seen me) (get_or s.words word 0) (the_view me))
       over = scan_over {m = record from { work = next.next }} v.client side (scanned_on now found v) now (memory_of r.kept next.run) own.there turn.owner p.tied.standing (tied_clients p.tied) refl own.body work_is
@@ -339,7 +367,7 @@ module _ {X : Type 0} (seen : X → EngineView) (kind : Kind) (start : EngineVie
           (p.fills (4 * client + place) filled v.own turn.holder.own)))
 
       rule : Rule (record { words = set s.words word value; homes = s.homes; views = set s.views id (filled_on (engine_before me) (engine_now seen me) (the_view me) ∷ []) })
-      rule = goes_on r id v (engine_before me) p.ahead p.engine p.count r.m.noted (filling_now v.work) (Filling (suc (4 * client + place))) (with_row_word row client place value r.m.rows) now v.looked v.met (next_filled (filling_now v.work)) (own_by (engine_before me) v.body.front v.work v.own) r.faults (set s.words word value) here turn run words p.tied (ap (λ (w : Work). failed_calls w r.faults) filled) r.apart r.clients (r.views id (v ∷ []) here).1 (λ d other. refl) (ap next_filled filled) owns
+      rule = goes_on r id v (engine_before me) p.ahead p.engine p.count r.m.noted (filling_now v.work) (Filling (suc (4 * client + place))) (with_row_word row client place value r.m.rows) now v.looked v.met (next_filled (filling_now v.work)) (own_by (engine_before me) v.body.front v.work v.own) r.faults (set s.words word value) here turn run words p.tied (ap (λ (w : Work). failed_calls w r.faults) filled) (ap (λ (w : Work). failed_asks w (asked_by r.m.owner r.m.book) r.faults) filled) r.apart r.clients (r.views id (v ∷ []) here).1 (λ d other. refl) (ap next_filled filled) owns
 
   -- Noting a fault
 
@@ -383,15 +411,28 @@ module _ {X : Type 0} (seen : X → EngineView) (kind : Kind) (start : EngineVie
       words : HasWords (record r.m { noted = (engine_now seen me).device.faults }) (set s.words 1 count)
       words = subst (λ (n : ℕ). HasWords (record r.m { noted = high }) (set s.words 1 n)) (sym count_is) (noted_stored high r.words)
 
+      -- the fault that is noted
+      met : Met
+      met = record { ask = (the_view me).body.ask; from = (engine_before me).device.faults; to = (engine_now seen me).device.faults }
+
+      ask_is : asked_by r.m.owner r.m.book ≡ (the_view me).body.ask
+      ask_is = ap (λ (o : Owner). asked_by o r.m.book) turn.owner ∙ ap (λ (b : Client). b.ask) (sym own.body)
+
+      asker : (the_view me).body.ask.client ≡ (the_view me).client
+      asker =
+          let client = (is_memory seen kind start r).clients v.client own.there in
+          ap (λ (b : Client). b.ask.client) own.body ∙ (client.asking (ap is_idle (the_holder (side_of (r.m.book v.client).ask.op) client turn.owner).stage)).client
+
       never : (stored : ℕ) → Noting (engine_before me).device.faults (engine_now seen me).device.faults ≢ Filling stored
       never stored e = cc
 
       rule : Rule (record { words = set s.words 1 count; homes = s.homes; views = set s.views id (noted (engine_before me) (engine_now seen me) (the_view me) ∷ []) })
-      rule = goes_on r id v (engine_before me) p.ahead p.engine p.count high (Noting low high) (GivingUp low high) r.m.rows now v.looked (v.met ++ record { from = low; to = high } ∷ []) (GivingUp low high) v.own (r.faults ++ record { client = v.client; met = record { from = low; to = high } } ∷ []) (set s.words 1 count) here turn run words p.tied (sym (length-append r.faults (record { client = v.client; met = record { from = low; to = high } } ∷ []) ∙ omega arith))
-          (apart_more 0 r.faults r.m.noted v.client low high cause.1 cause.0 r.apart)
-          (clients_more (clients_of r.m) r.faults v.client (record { from = low; to = high }) own.there r.clients)
-          (ap (λ (l : List Met). l ++ record { from = low; to = high } ∷ []) (r.views id (v ∷ []) here).1 ∙ sym (met_own v.client r.faults (record { from = low; to = high })))
-          (λ d other. met_other v.client d r.faults (record { from = low; to = high }) other) refl (p.stays never v.own turn.holder.own)
+      rule = goes_on r id v (engine_before me) p.ahead p.engine p.count high (Noting low high) (GivingUp low high) r.m.rows now v.looked (v.met ++ met ∷ []) (GivingUp low high) v.own (r.faults ++ record { client = v.client; met = met } ∷ []) (set s.words 1 count) here turn run words p.tied (sym (length-append r.faults (record { client = v.client; met = met } ∷ []) ∙ omega arith))
+          (ap (λ (ask : Ask). fault_asks r.faults ++ ask ∷ []) ask_is ∙ sym (asks_more r.faults (record { client = v.client; met = met })))
+          (apart_more 0 r.faults r.m.noted v.client v.body.ask low high cause.1 cause.0 r.apart)
+          (clients_more (clients_of r.m) r.faults v.client met own.there asker r.clients)
+          (ap (λ (l : List Met). l ++ met ∷ []) (r.views id (v ∷ []) here).1 ∙ sym (met_own v.client r.faults met))
+          (λ d other. met_other v.client d r.faults met other) refl (p.stays never v.own turn.holder.own)
 
 pub scan_place_few : {work : Work} {client place : ℕ} → IsScanPlace work client place → place < 5
 scan_place_few {work} {client} {place} scan =

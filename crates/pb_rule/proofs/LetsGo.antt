@@ -1,5 +1,5 @@
 -- The steps with which the holder lets the turn go: publishing, and giving up.
-use Rattle.std.proofs.Common.{◌≡◌, ℕ, suc, ◌+◌, ◌-◌, ◌*◌, eqb, Bool, true, false, List, [], ◌∷◌, ◌++◌, length, set, Option, Some, None, IsSome, sym, refl, ap, ◌∙◌, subst, arith}
+use Rattle.std.proofs.Common.{◌≡◌, ℕ, suc, ◌+◌, ◌-◌, ◌*◌, eqb, Bool, true, false, List, [], ◌∷◌, ◌++◌, length, set, Contains, Option, Some, None, IsSome, sym, refl, ap, ◌∙◌, subst, inl, arith}
 use Rattle.std.proofs.lemmas.Bool.{eqb-true, eqb-false, false≢true}
 use Rattle.std.proofs.lemmas.List.{append-nil}
 use mathlib.Core.Option as maybe
@@ -9,24 +9,26 @@ use Rattle.atomic_table.specs.Table.{State, gives, Allows, put_back, rest}
 use Rattle.pb_object.specs.declared.kind.Kind.{Kind}
 use Rattle.pb_object.specs.declared.request.Kept.{Kept}
 use Rattle.pb_object.specs.declared.request.Reply.{Reply}
-use Rattle.pb_object.specs.History.{Round, History}
+use Rattle.pb_object.specs.History.{Entry, Round, History, kept_by}
 use Rattle.pb_object.specs.Standing.{Standing, newest_of}
-use Rattle.pb_core.specs.Client.{Looking, Client, is_holding}
-use Rattle.pb_core.specs.Memory.{Owner, Free, NoWork, Filling, GivingUp, Engine, Recorded, Memory, with_at, with_client, clients_of, shown, known, known_by, with_round, side_of, Work}
-use Rattle.pb_core.specs.MemoryParts.{held_count}
+use Rattle.pb_core.specs.Client.{Looking, Client, is_idle, is_holding, entry_by}
+use Rattle.pb_core.specs.Memory.{Owner, Free, NoWork, Filling, GivingUp, Engine, Recorded, Doubtful, Memory, with_at, with_client, clients_of, shown, known, known_by, with_round, side_of, Work}
+use Rattle.pb_core.specs.MemoryParts.{held_count, own_entries, IsMemory}
 use Rattle.pb_core.specs.MemoryRun.{stepped as stepped_move}
 use Rattle.pb_core.specs.WordMoves.{go_to, steps_to, answered, with_answer, with_published, publishing_own, publishing_others, giving_up}
 use Rattle.pb_core.proofs.Basics.{with_at-same, with_at-other}
 use Rattle.pb_core.proofs.Histories.{state_after-push}
-use Rattle.pb_core.proofs.Turns.{work_suits}
+use Rattle.pb_core.proofs.Turns.{the_holder, work_suits}
+use Rattle.pb_engine.specs.Calls.{progress_of, HasRequest, AreMadeFor}
 use Rattle.pb_engine.specs.View.{EngineView}
 use Rattle.pb_engine.specs.Good.{HasCome}
-use Rattle.pb_rule.specs.View.{Note, Turn, OwnRound, PassView}
+use Rattle.pb_rule.specs.View.{Note, Turn, Row, OwnRound, PassView}
 use Rattle.pb_rule.specs.Holding.{IsGivingUp}
 use Rattle.pb_rule.specs.Plays.{Seated, the_view, engine_before, engine_now, slot_seen, lets_go, own_round, published_body, published, publish_step, given_up}
 use Rattle.pb_rule.specs.Ready.{IsReadyFor, same_work}
-use Rattle.pb_rule.specs.Rule.{AreApart, HasWords, IsTied, LiesAt, IsBelow, SuitsEngine, recorded_by, HasFront, IsOwn, AreServed, IsViewOf, HasRun, Keeps, failed_calls, AreOfClients}
+use Rattle.pb_rule.specs.Rule.{AreApart, HasWords, IsTied, LiesAt, IsBelow, SuitsEngine, recorded_by, HasFront, IsOwn, AreServed, IsViewOf, HasRun, Keeps, failed_calls, asked_by, failed_asks, AreNextAtSettling, IsUnpublished, AreAnsweredOrAhead, AreOfClients}
 use Rattle.pb_rule.proofs.Holds.{stands_holding}
+use Rattle.pb_rule.proofs.MadeRounds.{kept_request, answered_keeps, answered_adds, others_own, not_doubtful, none_unpublished, makers_stay}
 use Rattle.pb_rule.proofs.Movers.{own_view, running, is_memory, keeps_rule, others_stay, held_lonely, served_more}
 use Rattle.pb_rule.proofs.Prepared.{HasTurn, has_turn}
 use Rattle.pb_rule.proofs.Runs.{moved_on}
@@ -152,14 +154,44 @@ module _ {X : Type 0} (seen : X → EngineView) (kind : Kind) (start : EngineVie
       standing : (engine_before me).standing ≡ known r.m
       standing = ap (λ (e : EngineView). e.standing) (sym held.same) ∙ r.tied.standing
 
-      tied : IsTied kind start (with_published (some_round r.m.ahead suits.1).0 r.m) (engine_before me) r.faults
-      tied = subst (λ (e : EngineView). IsTied kind start (with_published round r.m) e r.faults) held.same (record {
+      -- memory afterwards, with this book and these answers
+      after_round_of : (ℕ → Client) → List Entry → Memory
+      after_round_of book answers = record (with_published (some_round r.m.ahead suits.1).0 r.m) { book = book; answers = answers }
+
+      tied : (book : ℕ → Client) (answers : List Entry) → AreAnsweredOrAhead (after_round_of book answers) r.tied.calls → IsTied kind start (after_round_of book answers) (engine_before me) r.faults
+      tied book answers makers = subst (λ (e : EngineView). IsTied kind start (after_round_of book answers) e r.faults) held.same (record {
         standing = r.tied.standing ∙ (known_is ∙ sym (state_after-push r.m.start r.m.past r.m.published round));
         count = r.tied.count;
         suits = subst (λ (e : Engine). SuitsEngine e r.m.ahead r.engine) suits.0 r.tied.suits;
-        come = subst (HasCome start r.engine (r.m.published ++ round ∷ [])) (ap (λ (w : Work). failed_calls w r.faults) work) (subst (λ (h : History). HasCome start r.engine h (failed_calls r.m.work r.faults)) (λ i. recorded_by (suits.0 i) (ahead_is i) r.m.published) r.tied.come);
+        calls = r.tied.calls;
+        come = subst (λ (failures : ℕ). HasCome start r.engine (r.m.published ++ round ∷ []) failures r.tied.calls) (ap (λ (w : Work). failed_calls w r.faults) work) (subst (λ (h : History). HasCome start r.engine h (failed_calls r.m.work r.faults) r.tied.calls) (λ i. recorded_by (suits.0 i) (ahead_is i) r.m.published) r.tied.come);
+        called_for = record {
+          failed = subst (λ (w : Work). AreMadeFor r.tied.calls (failed_asks w (asked_by r.m.owner r.m.book) r.faults)) work r.tied.called_for.failed;
+          next = subst (λ (w : Work). AreNextAtSettling start.standing (progress_of [] start) r.tied.calls (failed_asks w (asked_by r.m.owner r.m.book) r.faults)) work r.tied.called_for.next;
+          made = makers;
+        };
         sound = r.tied.sound;
       })
+
+      -- the request of whoever made the round is what is kept of it
+      is : IsMemory r.m
+      is = is_memory seen kind start r
+
+      own_ask : asked_by r.m.owner r.m.book ≡ (r.m.book (the_view me).client).ask
+      own_ask = ap (λ (o : Owner). asked_by o r.m.book) held.owner
+
+      asker : (r.m.book (the_view me).client).ask.client ≡ (the_view me).client
+      asker =
+          let client = is.clients v.client own.there in
+          (client.asking (ap is_idle (the_holder (side_of (r.m.book v.client).ask.op) client held.owner).stage)).client
+
+      has_own : (other : Round) → IsUnpublished r.m other → HasRequest other (r.m.book (the_view me).client).ask
+      has_own other unpublished = subst (HasRequest other) own_ask unpublished.own
+
+      kept_own : (other : Round) (unpublished : IsUnpublished r.m other) → newest_of (known r.m) (the_view me).client ≡ kept_by (entry_by (r.m.book (the_view me).client).ask (has_own other unpublished).reply)
+      kept_own other unpublished =
+          ap (λ (t : Standing). newest_of t v.client) (λ i. known_by (unpublished.recorded i) (unpublished.ahead i) (shown r.m))
+          ∙ kept_request v.client other is unpublished.ahead asker (has_own other unpublished)
 
       turned : turn ≡ r.m.turn + 1
       turned = omega (arith, turn_is, turn_held r v before held)
@@ -182,14 +214,14 @@ module _ {X : Type 0} (seen : X → EngineView) (kind : Kind) (start : EngineVie
       number_is = ap (λ (b : Client). b.ask.number) (sym own.body)
 
       after : Bool → PassView
-      after mine = record v { body = published_body mine (newest_of before.standing v.client).reply v.body; notes = v.notes ++ Turn (2 * suc v.body.front) ∷ []; served = v.served ++ own_round v.own; work = NoWork; hand = None; own = None }
+      after mine = record v { body = published_body mine (newest_of before.standing v.client).reply v.body; notes = v.notes ++ Row (newest_of before.standing v.client).number ∷ Turn (2 * suc v.body.front) ∷ []; served = v.served ++ own_round v.own; work = NoWork; hand = None; own = None }
 
       go : (mine : Bool) → eqb (newest_of (engine_before me).standing (the_view me).client).number (the_view me).body.ask.number ≡ mine
-          → Rule (record { words = set s.words 0 turn; homes = set s.homes 0 (some (Some ready.holds.value)); views = set s.views id (record (the_view me) { body = published_body mine (newest_of (engine_before me).standing (the_view me).client).reply (the_view me).body; notes = (the_view me).notes ++ Turn (2 * suc (the_view me).body.front) ∷ []; served = (the_view me).served ++ own_round (the_view me).own; work = NoWork; hand = None; own = None } ∷ []) })
+          → Rule (record { words = set s.words 0 turn; homes = set s.homes 0 (some (Some ready.holds.value)); views = set s.views id (record (the_view me) { body = published_body mine (newest_of (engine_before me).standing (the_view me).client).reply (the_view me).body; notes = (the_view me).notes ++ Row (newest_of (engine_before me).standing (the_view me).client).number ∷ Turn (2 * suc (the_view me).body.front) ∷ []; served = (the_view me).served ++ own_round (the_view me).own; work = NoWork; hand = None; own = None } ∷ []) })
       go true e =
           let reply : Reply = (newest_of (known r.m) v.client).reply in
           let new : Memory = with_answer v.client reply (suc (length r.m.published)) (with_published round r.m) in
-          lets_turn_go r id v before x new (answered reply (suc (length r.m.published)) (r.m.book v.client)) (answered (newest_of before.standing v.client).reply (suc v.body.front) v.body) (v.notes ++ Turn (2 * suc v.body.front) ∷ []) (v.served ++ own_round v.own) (round ∷ []) (set s.words 0 turn) here held seen_is
+          lets_turn_go r id v before x new (answered reply (suc (length r.m.published)) (r.m.book v.client)) (answered (newest_of before.standing v.client).reply (suc v.body.front) v.body) (v.notes ++ Row (newest_of before.standing v.client).number ∷ Turn (2 * suc v.body.front) ∷ []) (v.served ++ own_round v.own) (round ∷ []) (set s.words 0 turn) here held seen_is
           (moved_on r.run (stepped_move v.client _ (record {
             running = running seen kind start r;
             there = own.there;
@@ -205,11 +237,20 @@ module _ {X : Type 0} (seen : X → EngineView) (kind : Kind) (start : EngineVie
             });
           })))
           refl refl refl refl refl (words new refl refl refl refl refl)
-          (record { standing = tied.standing; count = tied.count; suits = tied.suits; come = tied.come; sound = tied.sound })
+          (tied new.book new.answers (makers_stay r.m new r.tied.calls refl (others_own v.client (answered reply (suc (length r.m.published)) (r.m.book v.client)) r.m.book (answered_keeps reply (suc (length r.m.published)) (r.m.book v.client)))
+          (λ other unpublished. inl (record {
+            client = v.client;
+            there = own.there;
+            entry = entry_by (r.m.book v.client).ask (has_own other unpublished).reply;
+            one = (has_own other unpublished).entry;
+            own = subst (λ (b : Client). Contains (own_entries b) (entry_by (r.m.book v.client).ask (has_own other unpublished).reply)) (sym (with_at-same v.client (answered reply (suc (length r.m.published)) (r.m.book v.client)) r.m.book))
+                (subst (λ (one : Reply). Contains (own_entries (answered reply (suc (length r.m.published)) (r.m.book v.client))) (entry_by (r.m.book v.client).ask one)) (ap (λ (k : Kept). k.reply) (kept_own other unpublished))
+                (answered_adds reply (suc (length r.m.published)) (r.m.book v.client)));
+          })) r.tied.called_for.made))
           (λ i. answered (kept_is i).reply (suc (held.holder.front i)) (own.body i)) refl tt all_served
       go false e =
           let new : Memory = with_client v.client (record (r.m.book v.client) { stage = Looking; front = suc (length r.m.published) }) (with_published round r.m) in
-          lets_turn_go r id v before x new (record (r.m.book v.client) { stage = Looking; front = suc (length r.m.published) }) (record v.body { stage = Looking; front = suc v.body.front }) (v.notes ++ Turn (2 * suc v.body.front) ∷ []) (v.served ++ own_round v.own) (round ∷ []) (set s.words 0 turn) here held seen_is
+          lets_turn_go r id v before x new (record (r.m.book v.client) { stage = Looking; front = suc (length r.m.published) }) (record v.body { stage = Looking; front = suc v.body.front }) (v.notes ++ Row (newest_of before.standing v.client).number ∷ Turn (2 * suc v.body.front) ∷ []) (v.served ++ own_round v.own) (round ∷ []) (set s.words 0 turn) here held seen_is
           (moved_on r.run (stepped_move v.client _ (record {
             running = running seen kind start r;
             there = own.there;
@@ -225,7 +266,8 @@ module _ {X : Type 0} (seen : X → EngineView) (kind : Kind) (start : EngineVie
             });
           })))
           refl refl refl refl refl (words new refl refl refl refl refl)
-          (record { standing = tied.standing; count = tied.count; suits = tied.suits; come = tied.come; sound = tied.sound })
+          (tied new.book new.answers (makers_stay r.m new r.tied.calls refl (others_own v.client (record (r.m.book v.client) { stage = Looking; front = suc (length r.m.published) }) r.m.book (λ entry mine. mine))
+          (λ other unpublished. absurd (eqb-false _ _ e (ap (λ (k : Kept). k.number) (kept_is ∙ kept_own other unpublished) ∙ number_is))) r.tied.called_for.made))
           (λ i. record (own.body i) { stage = Looking; front = suc (held.holder.front i) }) refl tt all_served
 
   -- Giving up
@@ -258,6 +300,9 @@ module _ {X : Type 0} (seen : X → EngineView) (kind : Kind) (start : EngineVie
       work : r.m.work ≡ GivingUp giving.from giving.to
       work = sym held.holder.work ∙ giving.at
 
+      doubtful : r.m.engine ≡ Doubtful
+      doubtful = work_suits (GivingUp giving.from giving.to) (is_memory seen kind start r) held.owner work
+
       new : Memory
       new = record (steps_to (the_view me).client Looking r.m) { turn = r.m.turn - 1; owner = Free; work = NoWork }
 
@@ -271,7 +316,19 @@ module _ {X : Type 0} (seen : X → EngineView) (kind : Kind) (start : EngineVie
       run = moved_on r.run (stepped_move v.client _ (record { running = running seen kind start r; there = own.there; move = giving_up (record { side = side_of (r.m.book v.client).ask.op; holds = held.owner; from = giving.from; to = giving.to; at = work; is = refl; says = refl }) }))
 
       tied : IsTied kind start (record (steps_to (the_view me).client Looking r.m) { turn = r.m.turn - 1; owner = Free; work = NoWork }) (engine_before me) r.faults
-      tied = subst (λ (e : EngineView). IsTied kind start new e r.faults) held.same (record { standing = r.tied.standing; count = r.tied.count; suits = r.tied.suits; come = subst (HasCome start r.engine (recorded_by r.m.engine r.m.ahead r.m.published)) (ap (λ (w : Work). failed_calls w r.faults) work) r.tied.come; sound = r.tied.sound })
+      tied = subst (λ (e : EngineView). IsTied kind start new e r.faults) held.same (record {
+        standing = r.tied.standing;
+        count = r.tied.count;
+        suits = r.tied.suits;
+        calls = r.tied.calls;
+        come = subst (λ (failures : ℕ). HasCome start r.engine (recorded_by r.m.engine r.m.ahead r.m.published) failures r.tied.calls) (ap (λ (w : Work). failed_calls w r.faults) work) r.tied.come;
+        called_for = record {
+          failed = subst (λ (w : Work). AreMadeFor r.tied.calls (failed_asks w (asked_by r.m.owner r.m.book) r.faults)) work r.tied.called_for.failed;
+          next = subst (λ (w : Work). AreNextAtSettling start.standing (progress_of [] start) r.tied.calls (failed_asks w (asked_by r.m.owner r.m.book) r.faults)) work r.tied.called_for.next;
+          made = makers_stay r.m new r.tied.calls refl (others_own (the_view me).client (go_to Looking (r.m.book (the_view me).client)) r.m.book (λ entry mine. mine)) (λ round unpublished. absurd (none_unpublished r.m Doubtful doubtful not_doubtful round unpublished)) r.tied.called_for.made;
+        };
+        sound = r.tied.sound;
+      })
 
       rule : Rule (record { words = set s.words 0 turn; homes = set s.homes 0 (some (Some ready.holds.value)); views = set s.views id (given_up (the_view me) ∷ []) })
       rule = lets_turn_go r id v (engine_before me) ready.holds.value new (go_to Looking (r.m.book v.client)) (go_to Looking v.body) v.notes v.served [] (set s.words 0 turn) here held seen_is run refl refl (sym (append-nil r.m.published)) refl refl

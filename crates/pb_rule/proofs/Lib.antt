@@ -5,6 +5,8 @@ pub mod Asks
 pub mod Holds
 pub mod Known
 pub mod LetsGo
+pub mod MadeRounds
+pub mod Members
 pub mod Movers
 pub mod Prepared
 pub mod Rounds

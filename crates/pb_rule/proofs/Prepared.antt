@@ -1,5 +1,5 @@
 -- The calls of the device that a holder made since its last step, as moves of the core.
-use Rattle.std.proofs.Common.{arith, ◌+◌, ◌≡◌, ◌≢◌, ℕ, suc, ◌<◌, Bool, true, false, List, [], ◌∷◌, ◌++◌, length, Option, Some, None, sym, refl, ap, ◌∙◌, subst}
+use Rattle.std.proofs.Common.{arith, ◌+◌, ◌≡◌, ◌≢◌, ℕ, suc, ◌<◌, Bool, true, false, List, [], ◌∷◌, ◌++◌, length, Option, Some, None, sym, refl, ap, ◌∙◌, subst, inr}
 use Rattle.std.proofs.lemmas.Bool.{false≢true}
 use lib.ListN.{get_elem?}
 use mathlib.Core.Option.{some}
@@ -9,28 +9,34 @@ use Rattle.pb_object.specs.declared.request.Ask.{Ask}
 use Rattle.pb_object.specs.History.{Round, History, after_round, state_after, IsLegalRound}
 use Rattle.pb_object.specs.Standing.{Standing}
 use Rattle.pb_pmem.specs.declared.device.DeviceFault.{DeviceFault}
+use Rattle.pb_pmem.specs.declared.log.LogOp.{LogOp}
 use Rattle.pb_pmem.specs.Count.{Rose}
 use Rattle.pb_core.specs.Client.{Client, is_holding}
 use Rattle.pb_core.specs.HolderMoves.{round_by, HolderMove, beginning, recording, settling_none, settling_round, failing_settling, failing_before, failing_after, Begins}
-use Rattle.pb_core.specs.Memory.{Held, AtNumber, Work, Settling, Scanning, Calling, Filling, Noting, Engine, Resting, Recorded, Writing, Doubtful, Memory, clients_of, shown, known, known_by, with_round, coming, side_of}
+use Rattle.pb_core.specs.Memory.{Owner, Held, AtNumber, Work, Settling, Scanning, Calling, Filling, Noting, Engine, Resting, Recorded, Writing, Doubtful, Memory, clients_of, shown, known, known_by, with_round, coming, side_of}
 use Rattle.pb_core.specs.MemoryParts.{IsMemory, IsScan}
 use Rattle.pb_core.specs.MemoryRun.{called}
 use Rattle.pb_core.proofs.Holding.{begins_legal}
 use Rattle.pb_core.proofs.Scans.{the_scan, known_shown, meets_some}
 use Rattle.pb_core.proofs.Turns.{work_suits}
 use Rattle.pb_engine.specs.Asks.{asked_round}
-use Rattle.pb_engine.specs.Calls.{settled_rounds, with_doubt}
+use Rattle.pb_layout.specs.RegionOps.{settle_to}
+use Rattle.pb_layout.specs.Represents.{header_for}
+use Rattle.pb_engine.specs.Calls.{EngineCall, Made, Failed, Settled as SettledCall, FailedSettling as FailedSettlingCall, HasRequest, AreMadeFor, settled_rounds, with_doubt, Progress, progress_of, after_calls}
 use Rattle.pb_engine.specs.Good.{HasCome}
 use Rattle.pb_engine.specs.View.{EngineView, FailedRound, IsEngine, was_called, settled_by, settled_standing}
+use Rattle.pb_engine.specs.Operations.{round_ops}
 use Rattle.pb_engine.proofs.Coming.{after_round_made, after_round_failed, after_settled, after_settling_failed}
+use Rattle.pb_engine.proofs.MadeFor.{round_for_none, settling_for_none, failed_for, failed_settling_for}
 use Rattle.pb_rule.specs.View.{OwnRound, PassView, numbers_of}
 use Rattle.pb_rule.specs.Plays.{own_by}
 use Rattle.pb_rule.specs.Ready.{Settled, FailedSettling, MadeRound, FailedRound as FailedMaking, Ready, untouched, settled_none, settled_round, recorded, failed_settling, failed_round}
-use Rattle.pb_rule.specs.Rule.{called_if, called_round, SuitsEngine, recorded_by, IsTied, IsAhead, IsOwn, IsHolder, HasNothing, IsViewOf, HasRun, Keeps, Fault, failed_calls}
+use Rattle.pb_rule.specs.Rule.{called_if, called_round, SuitsEngine, recorded_by, IsTied, IsAhead, IsOwn, IsHolder, HasNothing, IsViewOf, HasRun, Keeps, Fault, failed_calls, fault_asks, asked_by, failed_asks, IsUnpublished, IsNextOn, AreNextAtSettling, AreCalledFor}
 use Rattle.pb_rule.proofs.Known.{started}
+use Rattle.pb_rule.proofs.MadeRounds.{scanned_request, not_resting, not_doubtful, makers_stay, makers_more, held_next, round_next, settling_next, failed_next, failed_settling_next}
 use Rattle.pb_rule.proofs.Movers.{own_view, is_memory}
 use Rattle.pb_rule.proofs.Rounds.{round_same}
-use Rattle.pb_rule.proofs.Runs.{moved_on}
+use Rattle.pb_rule.proofs.Runs.{moved_on, memory_of}
 
 -- memory after the holder's calls: it alone may have changed so much
 abbrev pub called_to : Memory → Option Round → Engine → ℕ → Work → Memory
@@ -91,6 +97,23 @@ own_at : (work known : Work) (before : EngineView) (rounds : ℕ) (own : Option 
 own_at work known before rounds own start published ahead is fits =
     subst (λ (w : Work). IsOwn start published ahead (own_by before rounds w own)) (sym is) fits
 
+-- Calls
+
+abbrev settled_call : EngineView → EngineCall
+settled_call now = SettledCall (settle_to (header_for now.standing) now.standing)
+
+made_round : (a b : Round) (ops more : List LogOp) → Made a ops ≡ Made b more → a ≡ b
+made_round a b ops more is = cc
+
+failed_made : (failed : FailedRound) (round : Round) (ops more : List LogOp) → Failed failed ops ≡ Made round more → ⊥
+failed_made failed round ops more is = cc
+
+settled_made : (round : Round) (ops more : List LogOp) → SettledCall ops ≡ Made round more → ⊥
+settled_made round ops more is = cc
+
+failed_settling_made : (round : Round) (ops more : List LogOp) → FailedSettlingCall ops ≡ Made round more → ⊥
+failed_settling_made round ops more is = cc
+
 module _ {X : Type 0} (seen : X → EngineView) (kind : Kind) (start : EngineView) where
   abbrev Rule : State (Option X) (List PassView) → Type 0
   Rule = Keeps seen kind start
@@ -144,8 +167,20 @@ module _ {X : Type 0} (seen : X → EngineView) (kind : Kind) (start : EngineVie
     noting_filling : (from to stored : ℕ) → Noting from to ≡ Filling stored → ⊥
     noting_filling from to stored e = cc
 
-    one_more_call : {now : EngineView} {rounds : History} → HasCome start now rounds (length r.faults + 1) → HasCome start now rounds (suc (length r.faults))
-    one_more_call {now} {rounds} come = subst (HasCome start now rounds) (omega arith) come
+    one_more_call : {now : EngineView} {rounds : History} {calls : List EngineCall} → HasCome start now rounds (length r.faults + 1) calls → HasCome start now rounds (suc (length r.faults)) calls
+    one_more_call {now} {rounds} {calls} come =
+        subst (λ (failures : ℕ). HasCome start now rounds failures calls) (omega arith) come
+
+    -- what the engine was called for, with a call more
+    one_called : (ahead : Option Round) (engine : Engine) (count : ℕ) (work : Work) (call : EngineCall) → (r.m.engine ≡ Recorded → ⊥) → AreMadeFor (r.tied.calls ++ call ∷ []) (failed_asks work (asked_by r.m.owner r.m.book) r.faults)
+        → AreNextAtSettling start.standing (progress_of [] start) (r.tied.calls ++ call ∷ []) (failed_asks work (asked_by r.m.owner r.m.book) r.faults)
+        → ((round : Round) (ops : List LogOp) → call ≡ Made round ops → IsUnpublished (called_to r.m ahead engine count work) round) → AreCalledFor start (called_to r.m ahead engine count work) r.faults (r.tied.calls ++ call ∷ [])
+    one_called ahead engine count work call quiet failed next last = record {
+      failed = failed;
+      next = next;
+      made = makers_more (called_to r.m ahead engine count work) r.tied.calls call (λ round ops same. inr (last round ops same))
+          (makers_stay r.m (called_to r.m ahead engine count work) r.tied.calls refl (λ d entry own. own) (λ round unpublished. absurd (quiet unpublished.recorded)) r.tied.called_for.made);
+    }
 
     -- one call is one move
     one_call : (new : Memory) → HolderMove r.m c new → HasRun start new
@@ -163,10 +198,33 @@ module _ {X : Type 0} (seen : X → EngineView) (kind : Kind) (start : EngineVie
     settling_known at =
         r.tied.standing ∙ ap (λ (e : Engine). known_by e r.m.ahead (shown r.m)) (doubtful at)
 
-    settling_come : r.m.work ≡ Settling → HasCome start r.engine r.m.published (length r.faults)
+    settling_come : r.m.work ≡ Settling → HasCome start r.engine r.m.published (length r.faults) r.tied.calls
     settling_come at =
-        subst (λ (e : Engine). HasCome start r.engine (recorded_by e r.m.ahead r.m.published) (length r.faults)) (doubtful at)
-        (subst (λ (w : Work). HasCome start r.engine (recorded_by r.m.engine r.m.ahead r.m.published) (failed_calls w r.faults)) at r.tied.come)
+        subst (λ (e : Engine). HasCome start r.engine (recorded_by e r.m.ahead r.m.published) (length r.faults) r.tied.calls) (doubtful at)
+        (subst (λ (w : Work). HasCome start r.engine (recorded_by r.m.engine r.m.ahead r.m.published) (failed_calls w r.faults) r.tied.calls) at r.tied.come)
+
+    settling_for : r.m.work ≡ Settling → AreMadeFor r.tied.calls (fault_asks r.faults)
+    settling_for at =
+        subst (λ (w : Work). AreMadeFor r.tied.calls (failed_asks w (asked_by r.m.owner r.m.book) r.faults)) at r.tied.called_for.failed
+
+    next_before : r.m.work ≡ Settling → AreNextAtSettling start.standing (progress_of [] start) r.tied.calls (fault_asks r.faults)
+    next_before at =
+        subst (λ (w : Work). AreNextAtSettling start.standing (progress_of [] start) r.tied.calls (failed_asks w (asked_by r.m.owner r.m.book) r.faults)) at r.tied.called_for.next
+
+    -- the holder's request is its client's next one on what is recorded for sure
+    own_next : r.m.work ≡ Settling → IsNextOn (state_after start.standing (after_calls (progress_of [] start) r.tied.calls).rounds) (asked_by r.m.owner r.m.book)
+    own_next at =
+        subst (λ (ask : Ask). IsNextOn (state_after start.standing (after_calls (progress_of [] start) r.tied.calls).rounds) ask) (ap (λ (o : Owner). asked_by o r.m.book) (sym held))
+        (subst (λ (t : Standing). IsNextOn t (r.m.book c).ask) shown_is (held_next c side is there held))
+      where
+        recorded_is : (after_calls (progress_of [] start) r.tied.calls).rounds ≡ r.m.published
+        recorded_is = ap (λ (p : Progress). p.rounds) (settling_come at).called.come
+
+        shown_is : shown r.m ≡ state_after start.standing (after_calls (progress_of [] start) r.tied.calls).rounds
+        shown_is = (λ i. state_after ((started r.run).0 i) ((started r.run).1 i ++ r.m.published)) ∙ ap (state_after start.standing) (sym recorded_is)
+
+    quiet_at : r.m.work ≡ Settling → r.m.engine ≡ Recorded → ⊥
+    quiet_at at recorded_is = not_doubtful (sym (doubtful at) ∙ recorded_is)
 
     prepare_untouched : (now : EngineView) (work : Work) → work ≡ r.m.work → now ≡ r.engine → IsPrepared kind start r.m r.faults r.engine now work
     prepare_untouched now work work_is now_is = subst (λ (w : Work). IsPrepared kind start r.m r.faults r.engine now w) (sym work_is) (record {
@@ -189,7 +247,9 @@ module _ {X : Type 0} (seen : X → EngineView) (kind : Kind) (start : EngineVie
         standing = settled.settled.standing ∙ (uncalled_standing r.engine.standing r.engine.doubt uncalled ∙ settling_known at);
         count = settled.settled.device.faults ∙ r.tied.count;
         suits = settled.settled.sure;
-        come = subst (λ (h : History). HasCome start now h (length r.faults)) (uncalled_rounds r.m.published r.engine.doubt uncalled) (after_settled start r.engine now r.m.published (length r.faults) (settling_come at) r.tied.sound.legal (settling_suits at).0 settled.settled settled.covers);
+        calls = r.tied.calls ++ settled_call now ∷ [];
+        come = subst (λ (h : History). HasCome start now h (length r.faults) (r.tied.calls ++ settled_call now ∷ [])) (uncalled_rounds r.m.published r.engine.doubt uncalled) (after_settled start r.engine now r.m.published (length r.faults) r.tied.calls (settling_come at) r.tied.sound.legal (settling_suits at).0 settled.settled settled.covers);
+        called_for = one_called r.m.ahead Resting r.m.count (Scanning 0 AtNumber []) (settled_call now) (quiet_at at) (settling_for_none r.tied.calls (settle_to (header_for now.standing) now.standing) (fault_asks r.faults) (settling_for at)) (settling_next start.standing (progress_of [] start) r.tied.calls (settle_to (header_for now.standing) now.standing) (fault_asks r.faults) (settling_for at) (next_before at)) (λ round ops same. absurd (settled_made round _ ops same));
         sound = sound;
       };
       fills = λ stored fills. absurd (scanning_filling stored fills);
@@ -206,7 +266,9 @@ module _ {X : Type 0} (seen : X → EngineView) (kind : Kind) (start : EngineVie
         standing = settled.settled.standing ∙ (doubt.standing ∙ (λ i. with_round (sym ahead_is i) (settling_known at i)));
         count = settled.settled.device.faults ∙ r.tied.count;
         suits = settled.settled.sure;
-        come = subst (λ (h : History). HasCome start now h (length r.faults)) (doubt.rounds_are ∙ ap (λ (a : Option Round). r.m.published ++ coming a) (sym ahead_is)) (after_settled start r.engine now r.m.published (length r.faults) (settling_come at) r.tied.sound.legal (settling_suits at).0 settled.settled settled.covers);
+        calls = r.tied.calls ++ settled_call now ∷ [];
+        come = subst (λ (h : History). HasCome start now h (length r.faults) (r.tied.calls ++ settled_call now ∷ [])) (doubt.rounds_are ∙ ap (λ (a : Option Round). r.m.published ++ coming a) (sym ahead_is)) (after_settled start r.engine now r.m.published (length r.faults) r.tied.calls (settling_come at) r.tied.sound.legal (settling_suits at).0 settled.settled settled.covers);
+        called_for = one_called r.m.ahead Recorded r.m.count (Filling 0) (settled_call now) (quiet_at at) (settling_for_none r.tied.calls (settle_to (header_for now.standing) now.standing) (fault_asks r.faults) (settling_for at)) (settling_next start.standing (progress_of [] start) r.tied.calls (settle_to (header_for now.standing) now.standing) (fault_asks r.faults) (settling_for at) (next_before at)) (λ round ops same. absurd (settled_made round _ ops same));
         sound = sound;
       };
       fills = λ stored fills own is. own_at r.m.work Settling r.engine (length r.m.published) own r.m.start r.m.published r.m.ahead at tt;
@@ -229,7 +291,9 @@ module _ {X : Type 0} (seen : X → EngineView) (kind : Kind) (start : EngineVie
         standing = failed.failed.standing ∙ r.tied.standing;
         count = refl;
         suits = subst (λ (e : Engine). SuitsEngine e r.m.ahead now) (sym (doubtful at)) (failed.failed.unsure.sure, ap called_round failed.failed.doubt ∙ (settling_suits at).1);
-        come = subst (λ (e : Engine). HasCome start now (recorded_by e r.m.ahead r.m.published) (suc (length r.faults))) (sym (doubtful at)) (one_more_call (after_settling_failed start r.engine now r.m.published (length r.faults) fault (settling_come at) (settling_suits at).0 failed.failed failed.covers));
+        calls = r.tied.calls ++ FailedSettlingCall failed.failed.device.stops.ops ∷ [];
+        come = subst (λ (e : Engine). HasCome start now (recorded_by e r.m.ahead r.m.published) (suc (length r.faults)) (r.tied.calls ++ FailedSettlingCall failed.failed.device.stops.ops ∷ [])) (sym (doubtful at)) (one_more_call (after_settling_failed start r.engine now r.m.published (length r.faults) r.tied.calls fault (settling_come at) (settling_suits at).0 failed.failed failed.covers));
+        called_for = one_called r.m.ahead r.m.engine now.device.faults (Noting r.m.count now.device.faults) (FailedSettlingCall failed.failed.device.stops.ops) (quiet_at at) (failed_settling_for r.tied.calls failed.failed.device.stops.ops (fault_asks r.faults) (asked_by r.m.owner r.m.book) (settling_for at)) (failed_settling_next start.standing (progress_of [] start) r.tied.calls failed.failed.device.stops.ops (fault_asks r.faults) (asked_by r.m.owner r.m.book) (own_next at) (settling_for at) (next_before at)) (λ round ops same. absurd (failed_settling_made round _ ops same));
         sound = sound;
       };
       fills = λ stored fills. absurd (noting_filling r.m.count now.device.faults stored fills);
@@ -254,10 +318,21 @@ module _ {X : Type 0} (seen : X → EngineView) (kind : Kind) (start : EngineVie
       scan_known : r.engine.standing ≡ shown r.m
       scan_known = r.tied.standing ∙ known_shown (clients_of r.m) AtNumber asks is held at
 
-      scan_come : HasCome start r.engine r.m.published (length r.faults)
+      scan_come : HasCome start r.engine r.m.published (length r.faults) r.tied.calls
       scan_come =
-          subst (λ (e : Engine). HasCome start r.engine (recorded_by e r.m.ahead r.m.published) (length r.faults)) resting.0
-          (subst (λ (w : Work). HasCome start r.engine (recorded_by r.m.engine r.m.ahead r.m.published) (failed_calls w r.faults)) at r.tied.come)
+          subst (λ (e : Engine). HasCome start r.engine (recorded_by e r.m.ahead r.m.published) (length r.faults) r.tied.calls) resting.0
+          (subst (λ (w : Work). HasCome start r.engine (recorded_by r.m.engine r.m.ahead r.m.published) (failed_calls w r.faults) r.tied.calls) at r.tied.come)
+
+      scan_for : AreMadeFor r.tied.calls (fault_asks r.faults)
+      scan_for =
+          subst (λ (w : Work). AreMadeFor r.tied.calls (failed_asks w (asked_by r.m.owner r.m.book) r.faults)) at r.tied.called_for.failed
+
+      scan_next : AreNextAtSettling start.standing (progress_of [] start) r.tied.calls (fault_asks r.faults)
+      scan_next =
+          subst (λ (w : Work). AreNextAtSettling start.standing (progress_of [] start) r.tied.calls (failed_asks w (asked_by r.m.owner r.m.book) r.faults)) at r.tied.called_for.next
+
+      quiet : r.m.engine ≡ Recorded → ⊥
+      quiet recorded_is = not_resting (sym resting.0 ∙ recorded_is)
 
       abbrev begun_to : Memory
       begun_to = record r.m { ahead = Some (round_by side (known r.m) asks); work = Calling; engine = Writing }
@@ -285,6 +360,13 @@ module _ {X : Type 0} (seen : X → EngineView) (kind : Kind) (start : EngineVie
         kept = ap numbers_of (scan_known ∙ ap (λ (past : History). state_after r.m.start (past ++ r.m.published)) (started r.run).1);
       }
 
+      -- the holder's own request is in it
+      own_request : HasRequest (asked_round r.engine.standing asks) (asked_by r.m.owner r.m.book)
+      own_request =
+          subst (λ (round : Round). HasRequest round (asked_by r.m.owner r.m.book)) (sym round_is)
+          (subst (HasRequest (round_by side (known r.m) asks)) (ap (λ (o : Owner). asked_by o r.m.book) (sym held))
+          (scanned_request {m = begun_to} c (round_by side (known r.m) asks) (known r.m) asks (memory_of r.kept begun_run) there refl refl (scan.own there)))
+
       prepare_recorded : (now : EngineView) (work : Work) → IsEngine kind now → MadeRound asks r.engine now → work ≡ Filling 0 → IsPrepared kind start r.m r.faults r.engine now work
       prepare_recorded now work sound made work_is = subst (λ (w : Work). IsPrepared kind start r.m r.faults r.engine now w) (sym work_is) (record {
         ahead = Some (round_by side (known r.m) asks);
@@ -295,7 +377,10 @@ module _ {X : Type 0} (seen : X → EngineView) (kind : Kind) (start : EngineVie
           standing = made.made.standing ∙ (λ i. after_round (scan_known i) (round_is i));
           count = made.made.device.faults ∙ r.tied.count;
           suits = made.made.sure;
-          come = subst (λ (round : Round). HasCome start now (r.m.published ++ round ∷ []) (length r.faults)) round_is (after_round_made start r.engine now r.m.published (length r.faults) (asked_round r.engine.standing asks) scan_come legal sure decided made.made made.covers);
+          calls = r.tied.calls ++ Made (asked_round r.engine.standing asks) (round_ops r.engine (asked_round r.engine.standing asks) made.made.lines) ∷ [];
+          come = subst (λ (round : Round). HasCome start now (r.m.published ++ round ∷ []) (length r.faults) (r.tied.calls ++ Made (asked_round r.engine.standing asks) (round_ops r.engine (asked_round r.engine.standing asks) made.made.lines) ∷ [])) round_is (after_round_made start r.engine now r.m.published (length r.faults) r.tied.calls (asked_round r.engine.standing asks) scan_come legal sure decided made.made made.covers);
+          called_for = one_called (Some (round_by side (known r.m) asks)) Recorded r.m.count (Filling 0) (Made (asked_round r.engine.standing asks) (round_ops r.engine (asked_round r.engine.standing asks) made.made.lines)) quiet (round_for_none r.tied.calls (asked_round r.engine.standing asks) (round_ops r.engine (asked_round r.engine.standing asks) made.made.lines) (fault_asks r.faults) scan_for) (round_next start.standing (progress_of [] start) r.tied.calls (asked_round r.engine.standing asks) (round_ops r.engine (asked_round r.engine.standing asks) made.made.lines) (fault_asks r.faults) scan_for scan_next)
+              (λ round ops same. subst (IsUnpublished (called_to r.m (Some (round_by side (known r.m) asks)) Recorded r.m.count (Filling 0))) (made_round _ round _ ops same) (record { recorded = refl; ahead = ap Some (sym round_is); own = own_request }));
           sound = sound;
         };
         fills = λ stored fills own is. own_at r.m.work (Scanning (clients_of r.m) AtNumber asks) r.engine (length r.m.published) own r.m.start r.m.published (Some (round_by side (known r.m) asks)) at own_ahead;
@@ -309,8 +394,14 @@ module _ {X : Type 0} (seen : X → EngineView) (kind : Kind) (start : EngineVie
           rose : Rose r.m.count now.device.faults
           rose = subst (λ (n : ℕ). Rose n now.device.faults) r.tied.count failed.failed.device.stops.rose
 
-          come : HasCome start now r.m.published (suc (length r.faults))
-          come = one_more_call (after_round_failed start r.engine now r.m.published (length r.faults) (asked_round r.engine.standing asks) fault scan_come sure decided failed.failed failed.covers)
+          call : EngineCall
+          call = Failed (record { round = asked_round r.engine.standing asks; called = failed.failed.called }) failed.failed.device.stops.ops
+
+          come : HasCome start now r.m.published (suc (length r.faults)) (r.tied.calls ++ Failed (record { round = asked_round r.engine.standing asks; called = failed.failed.called }) failed.failed.device.stops.ops ∷ [])
+          come = one_more_call (after_round_failed start r.engine now r.m.published (length r.faults) r.tied.calls (asked_round r.engine.standing asks) fault scan_come legal sure decided failed.failed failed.covers)
+
+          failed_is : (ahead : Option Round) → AreCalledFor start (called_to r.m ahead Doubtful now.device.faults (Noting r.m.count now.device.faults)) r.faults (r.tied.calls ++ Failed (record { round = asked_round r.engine.standing asks; called = failed.failed.called }) failed.failed.device.stops.ops ∷ [])
+          failed_is ahead = one_called ahead Doubtful now.device.faults (Noting r.m.count now.device.faults) call quiet (failed_for r.tied.calls (record { round = asked_round r.engine.standing asks; called = failed.failed.called }) failed.failed.device.stops.ops (fault_asks r.faults) (asked_by r.m.owner r.m.book) own_request scan_for) (failed_next start.standing (progress_of [] start) r.tied.calls (record { round = asked_round r.engine.standing asks; called = failed.failed.called }) failed.failed.device.stops.ops (fault_asks r.faults) (asked_by r.m.owner r.m.book) scan_for scan_next) (λ round ops same. absurd (failed_made _ round _ ops same))
 
           doubt_is : (b : Bool) → failed.failed.called ≡ b → called_round now.doubt ≡ called_if b (asked_round r.engine.standing asks)
           doubt_is b e = ap called_round failed.failed.doubt ∙ ap (λ (x : Bool). called_if x (asked_round r.engine.standing asks)) e
@@ -325,7 +416,9 @@ module _ {X : Type 0} (seen : X → EngineView) (kind : Kind) (start : EngineVie
               standing = failed.failed.standing ∙ scan_known;
               count = refl;
               suits = (failed.failed.unsure.sure, doubt_is false e);
+              calls = r.tied.calls ++ call ∷ [];
               come = come;
+              called_for = failed_is None;
               sound = sound;
             };
             fills = λ stored fills. absurd (noting_filling r.m.count now.device.faults stored fills);
@@ -340,7 +433,9 @@ module _ {X : Type 0} (seen : X → EngineView) (kind : Kind) (start : EngineVie
               standing = failed.failed.standing ∙ scan_known;
               count = refl;
               suits = (failed.failed.unsure.sure, doubt_is true e ∙ ap Some round_is);
+              calls = r.tied.calls ++ call ∷ [];
               come = come;
+              called_for = failed_is (Some (round_by side (known r.m) asks));
               sound = sound;
             };
             fills = λ stored fills. absurd (noting_filling r.m.count now.device.faults stored fills);

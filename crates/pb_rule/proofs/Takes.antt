@@ -9,23 +9,26 @@ use prog.Atomic.{either}
 use Rattle.atomic_table.specs.Table.{State, Act, keeps, takes, Allows, Valid, stepped, carried_after}
 use Rattle.atomic_table.proofs.Lists.{exchanged}
 use Rattle.pb_object.specs.declared.kind.Kind.{Kind}
+use Rattle.pb_object.specs.declared.request.Ask.{Ask}
 use Rattle.pb_object.specs.declared.request.TheConstants.{LAST_NUMBER}
 use Rattle.pb_layout.specs.declared.header.TheConstants.{MOST_CLIENTS}
 use Rattle.pb_layout_laws.proofs.FewRounds.{legal_few}
 use Rattle.pb_core.specs.declared.event.Stepped.TheVariants.{Went}
 use Rattle.pb_core.specs.Client.{Looking, Taking, Holding, is_holding}
-use Rattle.pb_core.specs.Memory.{Owner, Free, Held, AtNumber, Work, Settling, Scanning, Engine, Resting, Doubtful, Memory, clients_of, side_of, round_of_turn, NoWork}
+use Rattle.pb_core.specs.Memory.{Owner, Free, Held, AtNumber, Work, Settling, Scanning, Engine, Resting, Recorded, Doubtful, Memory, clients_of, side_of, round_of_turn, NoWork}
 use Rattle.pb_core.specs.MemoryParts.{IsMemory}
 use Rattle.pb_core.specs.WordMoves.{go_to, sees, steps_to, WordMove, taking_sure, taking_unsure, missing}
 use Rattle.pb_core.proofs.Basics.{with_at-same, with_at-other}
 use Rattle.pb_core.proofs.Turns.{free_suits, taken_free}
 use Rattle.pb_core.proofs.Waiting.{held-small, turn_rounds}
+use Rattle.pb_engine.specs.Calls.{progress_of, AreMadeFor}
 use Rattle.pb_engine.specs.View.{EngineView, IsEngine}
 use Rattle.pb_engine.specs.Good.{HasCome}
 use Rattle.pb_rule.specs.View.{Turn, PassView}
 use Rattle.pb_rule.specs.Plays.{Seated, the_view, IsPlain, IsNoEarlier, last_look, first_turn, first_work, taken, HasTakenOrMissed}
-use Rattle.pb_rule.specs.Rule.{called_round, HasWords, LiesAt, SuitsEngine, IsViewOf, Keeps, failed_calls, recorded_by, Fault}
+use Rattle.pb_rule.specs.Rule.{called_round, HasWords, LiesAt, SuitsEngine, IsViewOf, Keeps, failed_calls, fault_asks, asked_by, failed_asks, AreNextAtSettling, AreCalledFor, recorded_by, Fault}
 use Rattle.pb_rule.proofs.Known.{engine_clients}
+use Rattle.pb_rule.proofs.MadeRounds.{others_own, not_resting, not_doubtful, makers_stay}
 use Rattle.pb_rule.proofs.Movers.{own_view, running, is_memory, keeps_rule, client_moves, others_stay, free_lonely}
 use Rattle.pb_rule.proofs.Waits.{stands, no_earlier, step_of, same_words, stage_of, front_at}
 use Rattle.pb_rule.proofs.WordLemmas.{words_of, turn_stored}
@@ -51,6 +54,10 @@ module _ {X : Type 0} (seen : X → EngineView) (kind : Kind) (start : EngineVie
   first_calls true faults = refl
   first_calls false faults = refl
 
+  first_asks : (sure : Bool) (ask : Ask) (faults : List Fault) → failed_asks (first_work sure) ask faults ≡ fault_asks faults
+  first_asks true ask faults = refl
+  first_asks false ask faults = refl
+
   -- the turn was as it was found
   takes_hit : {s : State (Option X) (List PassView)} (r : Rule s) (id : ℕ) (v : PassView) (turn found : ℕ) (x : X) (work : Work) → get_elem? s.views id ≡ some (v ∷ []) → v.body.stage ≡ Taking turn found
       → r.m.turn ≡ turn → r.m.owner ≡ Free → seen x ≡ r.engine → s.homes ≡ some (Some x) ∷ [] → first_work (seen x).sure ≡ work
@@ -60,7 +67,7 @@ module _ {X : Type 0} (seen : X → EngineView) (kind : Kind) (start : EngineVie
       keeps_rule seen kind start r id v (taken turn (seen x) v) new r.engine r.faults (set s.words 0 (turn + 1)) (set s.homes 0 maybe.none) at
       (step_of seen kind start r v.client new Went own.there move)
       (words_of new (set s.words 0 (turn + 1)) (turn_stored (turn + 1) r.words) refl refl turned.turn turned.noted turned.requests turned.rows)
-      (record { standing = r.tied.standing; count = r.tied.count; suits = r.tied.suits; come = subst (HasCome start r.engine (recorded_by r.m.engine r.m.ahead r.m.published)) (ap (λ (w : Work). failed_calls w r.faults) idle ∙ (sym (first_calls (seen x).sure r.faults) ∙ ap (λ (w : Work). failed_calls w r.faults) work_is)) r.tied.come; sound = r.tied.sound })
+      (record { standing = r.tied.standing; count = r.tied.count; suits = r.tied.suits; calls = r.tied.calls; come = subst (λ (failures : ℕ). HasCome start r.engine (recorded_by r.m.engine r.m.ahead r.m.published) failures r.tied.calls) (ap (λ (w : Work). failed_calls w r.faults) idle ∙ (sym (first_calls (seen x).sure r.faults) ∙ ap (λ (w : Work). failed_calls w r.faults) work_is)) r.tied.come; called_for = called_for; sound = r.tied.sound })
       (ap (λ (h : List (maybe.Option (Option X))). set h 0 maybe.none) homes) own.there r.apart r.clients refl
       (record {
         clients = own.clients;
@@ -88,6 +95,21 @@ module _ {X : Type 0} (seen : X → EngineView) (kind : Kind) (start : EngineVie
 
       idle : r.m.work ≡ NoWork
       idle = (free_suits (is_memory seen kind start r) free).0
+
+      quiet : ((r.m.engine ≡ Resting) × (r.m.ahead ≡ None)) ⊎ (r.m.engine ≡ Doubtful) → (r.m.engine ≡ Recorded) → ⊥
+      quiet (inl calm) recorded_is = not_resting (sym calm.0 ∙ recorded_is)
+      quiet (inr doubtful) recorded_is = not_doubtful (sym doubtful ∙ recorded_is)
+
+      same_asks : failed_asks r.m.work (asked_by r.m.owner r.m.book) r.faults ≡ failed_asks work (asked_by new.owner new.book) r.faults
+      same_asks =
+          ap (λ (w : Work). failed_asks w (asked_by r.m.owner r.m.book) r.faults) idle ∙ (sym (first_asks (seen x).sure (asked_by new.owner new.book) r.faults) ∙ ap (λ (w : Work). failed_asks w (asked_by new.owner new.book) r.faults) work_is)
+
+      called_for : AreCalledFor start (record (steps_to v.client Holding r.m) { turn = turn + 1; owner = Held v.client (side_of (r.m.book v.client).ask.op); work = work }) r.faults r.tied.calls
+      called_for = record {
+        failed = subst (AreMadeFor r.tied.calls) same_asks r.tied.called_for.failed;
+        next = subst (AreNextAtSettling start.standing (progress_of [] start) r.tied.calls) same_asks r.tied.called_for.next;
+        made = makers_stay r.m new r.tied.calls refl (others_own v.client (go_to Holding (r.m.book v.client)) r.m.book (λ entry mine. mine)) (λ round unpublished. absurd (quiet (free_suits (is_memory seen kind start r) free).1 unpublished.recorded)) r.tied.called_for.made;
+      }
 
       turned : HasWords (record r.m { turn = turn + 1 }) (set s.words 0 (turn + 1))
       turned = turn_stored (turn + 1) r.words
@@ -137,7 +159,7 @@ module _ {X : Type 0} (seen : X → EngineView) (kind : Kind) (start : EngineVie
     tt,
     client_moves seen kind start r id v (sees Looking met v.body) (v.notes ++ Turn met ∷ []) (sees Looking r.m.turn (r.m.book v.client)) r.m.requests r.m.answers (set s.words 0 met) here
         (step_of seen kind start r v.client _ _ own.there (missing (record { turn = turn; found = found; at = stage_of seen kind start r v _ own stage; other = λ e. other (r.words.turn ∙ e); is = refl; says = refl })))
-        (same_words seen kind start s.words 0 r.words) (λ i. sees Looking (r.words.turn i) (own.body i)) (ap is_holding stage) refl tt,
+        (same_words seen kind start s.words 0 r.words) (λ i. sees Looking (r.words.turn i) (own.body i)) (ap is_holding stage) refl tt (λ entry mine. mine),
     record { later = no_earlier seen kind start r id me here; hit = λ e. absurd (other (e ∙ ap first_turn stage)); miss = λ _. refl },
   )
     where

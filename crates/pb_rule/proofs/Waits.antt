@@ -20,6 +20,7 @@ use Rattle.pb_rule.specs.Plays.{Seated, the_view, IsPlain, IsNoEarlier, with_vie
 use Rattle.pb_rule.specs.Rule.{row_place, HasWords, HasFront, IsViewOf, HasRun, Keeps}
 use Rattle.pb_rule.specs.Seats.{IsRowPlace, at_code, at_value, at_extra}
 use Rattle.pb_rule.proofs.Runs.{moved_on}
+use Rattle.pb_rule.proofs.MadeRounds.{answered_keeps}
 use Rattle.pb_rule.proofs.Movers.{loaded, own_view, running, is_memory, client_moves}
 
 module _ {X : Type 0} (seen : X → EngineView) (kind : Kind) (start : EngineView) where
@@ -63,7 +64,7 @@ module _ {X : Type 0} (seen : X → EngineView) (kind : Kind) (start : EngineVie
 
   pub looks_first : (slots id : ℕ) (me : Seated X) → IsPlain me → (the_view me).body.stage ≡ Looking → Allows Rule slots id me 0 (λ n. n) (λ found new. (new ≡ with_view (first_look found) me) × IsNoEarlier found me)
   looks_first slots id me plain stage s r deep at small =
-      (first_look found v ∷ [], keeps, tt, client_moves seen kind start r id v (sees (LoadsNumber found) found v.body) (Turn found ∷ []) b r.m.requests r.m.answers (set s.words 0 found) here run (same_words s.words 0 r.words) (λ i. sees (LoadsNumber (r.words.turn i)) (r.words.turn i) (own.body i)) (free_at v.body.stage Looking stage refl) refl refl, (refl, no_earlier r id me here))
+      (first_look found v ∷ [], keeps, tt, client_moves seen kind start r id v (sees (LoadsNumber found) found v.body) (Turn found ∷ []) b r.m.requests r.m.answers (set s.words 0 found) here run (same_words s.words 0 r.words) (λ i. sees (LoadsNumber (r.words.turn i)) (r.words.turn i) (own.body i)) (free_at v.body.stage Looking stage refl) refl refl (λ entry mine. mine), (refl, no_earlier r id me here))
     where
       found : ℕ
       found = get_or s.words 0 0
@@ -89,7 +90,7 @@ module _ {X : Type 0} (seen : X → EngineView) (kind : Kind) (start : EngineVie
 
   pub looks_last : (slots id : ℕ) (me : Seated X) (found_first : ℕ) → IsPlain me → (the_view me).body.stage ≡ Lacking (first_turn (the_view me).body.stage) found_first → Allows Rule slots id me 0 (λ n. n) (λ found new. (new ≡ with_view (last_look found) me) × IsNoEarlier found me)
   looks_last slots id me found_first plain stage s r deep at small =
-      (last_look found v ∷ [], keeps, tt, client_moves seen kind start r id v (sees Looking found v.body) (v.notes ++ Turn found ∷ []) b r.m.requests r.m.answers (set s.words 0 found) here run (same_words s.words 0 r.words) (λ i. sees Looking (r.words.turn i) (own.body i)) (free_at v.body.stage _ stage refl) refl tt, (refl, no_earlier r id me here))
+      (last_look found v ∷ [], keeps, tt, client_moves seen kind start r id v (sees Looking found v.body) (v.notes ++ Turn found ∷ []) b r.m.requests r.m.answers (set s.words 0 found) here run (same_words s.words 0 r.words) (λ i. sees Looking (r.words.turn i) (own.body i)) (free_at v.body.stage _ stage refl) refl tt (λ entry mine. mine), (refl, no_earlier r id me here))
     where
       found : ℕ
       found = get_or s.words 0 0
@@ -155,7 +156,7 @@ module _ {X : Type 0} (seen : X → EngineView) (kind : Kind) (start : EngineVie
             is = refl;
             says = refl;
           })))
-          (same_words s.words 0 r.words) (λ i. answered reply (round_of_turn (turn i)) (own.body i)) (free_at v.body.stage _ stage refl) refl tt
+          (same_words s.words 0 r.words) (λ i. answered reply (round_of_turn (turn i)) (own.body i)) (free_at v.body.stage _ stage refl) refl tt (answered_keeps reply (round_of_turn r.m.turn) (r.m.book v.client))
       by false e =
           client_moves seen kind start r id v (sees Looking found v.body) (v.notes ++ Turn found ∷ []) (sees Looking r.m.turn (r.m.book v.client)) r.m.requests r.m.answers (set s.words 0 found) here
           (step_of r v.client _ _ own.there (finding_new (record {
@@ -166,7 +167,7 @@ module _ {X : Type 0} (seen : X → EngineView) (kind : Kind) (start : EngineVie
             is = refl;
             says = refl;
           })))
-          (same_words s.words 0 r.words) (λ i. sees Looking (turn i) (own.body i)) (free_at v.body.stage _ stage refl) refl tt
+          (same_words s.words 0 r.words) (λ i. sees Looking (turn i) (own.body i)) (free_at v.body.stage _ stage refl) refl tt (λ entry mine. mine)
 
   -- The published row
 
@@ -214,7 +215,7 @@ module _ {X : Type 0} (seen : X → EngineView) (kind : Kind) (start : EngineVie
       moves : (next known : Stage) → next ≡ known → is_holding next ≡ false → HasFront next (the_view me).body.front → WordMove r.m (the_view me).client (with_client (the_view me).client (go_to known (r.m.book (the_view me).client)) r.m) Went
           → Rule (record { words = set s.words (row_place client row 0) (get_or s.words (row_place client row 0) 0); homes = s.homes; views = set s.views id (record (the_view me) { body = go_to next (the_view me).body; notes = (the_view me).notes ++ Row (get_or s.words (row_place client row 0) 0) ∷ [] } ∷ []) })
       moves next known is free fits move =
-          client_moves seen kind start r id v (go_to next v.body) (v.notes ++ Row found ∷ []) (go_to known (r.m.book v.client)) r.m.requests r.m.answers (set s.words place found) here (step_of r v.client _ Went own.there move) (same_words s.words place r.words) (λ i. go_to (is i) (own.body i)) (free_at v.body.stage _ stage refl) free fits
+          client_moves seen kind start r id v (go_to next v.body) (v.notes ++ Row found ∷ []) (go_to known (r.m.book v.client)) r.m.requests r.m.answers (set s.words place found) here (step_of r v.client _ Went own.there move) (same_words s.words place r.words) (λ i. go_to (is i) (own.body i)) (free_at v.body.stage _ stage refl) free fits (λ entry mine. mine)
 
       by : (same held : Bool) → eqb (get_or s.words (row_place client row 0) 0) (the_view me).body.ask.number ≡ same → eqb (first_turn (the_view me).body.stage % 2) 1 ≡ held
           → Rule (record { words = set s.words (row_place client row 0) (get_or s.words (row_place client row 0) 0); homes = s.homes; views = set s.views id (record (the_view me) { body = go_to (if same then LoadsCode (first_turn (the_view me).body.stage) else (if held then Lacking (first_turn (the_view me).body.stage) (get_or s.words (row_place client row 0) 0) else Taking (first_turn (the_view me).body.stage) (get_or s.words (row_place client row 0) 0))) (the_view me).body; notes = (the_view me).notes ++ Row (get_or s.words (row_place client row 0) 0) ∷ [] } ∷ []) })
@@ -254,7 +255,7 @@ module _ {X : Type 0} (seen : X → EngineView) (kind : Kind) (start : EngineVie
           → Rule (record { words = set s.words (row_place client row place) (get_or s.words (row_place client row place) 0); homes = s.homes; views = set s.views id (row_word_found (get_or s.words (row_place client row place) 0) (the_view me) ∷ []) })
       moves from next known is before same free fits move found_is =
           subst (λ (t : Stage). Rule (record { words = set s.words (row_place client row place) found; homes = s.homes; views = set s.views id (record v { body = go_to t v.body } ∷ []) })) (sym (ap (word_found found) is ∙ found_is))
-          (client_moves seen kind start r id v (go_to next v.body) v.notes (go_to known (r.m.book v.client)) r.m.requests r.m.answers (set s.words (row_place client row place) found) here (step_of r v.client _ Went own.there move) (same_words s.words (row_place client row place) r.words) (λ i. go_to (same i) (own.body i)) (free_at v.body.stage _ is before) free fits)
+          (client_moves seen kind start r id v (go_to next v.body) v.notes (go_to known (r.m.book v.client)) r.m.requests r.m.answers (set s.words (row_place client row place) found) here (step_of r v.client _ Went own.there move) (same_words s.words (row_place client row place) r.words) (λ i. go_to (same i) (own.body i)) (free_at v.body.stage _ is before) free fits (λ entry mine. mine))
 
       by : IsRowPlace (the_view me).body.stage place → Rule (record { words = set s.words (row_place client row place) (get_or s.words (row_place client row place) 0); homes = s.homes; views = set s.views id (row_word_found (get_or s.words (row_place client row place) 0) (the_view me) ∷ []) })
       by (at_code turn is one) =

@@ -1,13 +1,15 @@
 -- The table as it is made, its views as seats part them, and what is left at the end.
-use Rattle.std.specs.Prelude.{◌≡◌, ◌⊎◌, ℕ, ◌+◌, ◌*◌, ◌<◌, ◌≤◌, true, false, List, [], ◌∷◌, length, Option, None, IfSome, slice_index}
+use Rattle.std.specs.Prelude.{◌≡◌, ◌⊎◌, ℕ, ◌+◌, ◌*◌, ◌<◌, ◌≤◌, true, false, List, [], ◌∷◌, Contains, length, Option, None, IfSome, slice_index}
 use Rattle.pb_object.specs.declared.kind.Kind.{Kind}
-use Rattle.pb_object.specs.History.{Round, History, state_after, IsLegal, IsLegalRound}
+use Rattle.pb_pmem.specs.declared.log.LogOp.{LogOp}
+use Rattle.pb_object.specs.History.{Entry, Round, History, state_after, IsLegal, IsLegalRound}
 use Rattle.pb_object.specs.Standing.{Standing, kept_list_of, newest_of}
 use Rattle.pb_core.specs.Client.{row_word, is_holding}
-use Rattle.pb_core.specs.MemoryParts.{HasEntries, AreDated}
+use Rattle.pb_core.specs.MemoryParts.{own_entries, HasEntries, AreDated}
+use Rattle.pb_engine.specs.Calls.{EngineCall, Made, progress_of, AreMadeFor}
 use Rattle.pb_engine.specs.Good.{HasCome}
 use Rattle.pb_engine.specs.View.{EngineView, IsEngine}
-use Rattle.pb_rule.specs.Rule.{request_place, row_place, word_count, called_round, AreServed, Fault, AreApart, AreOfClients, met_by}
+use Rattle.pb_rule.specs.Rule.{request_place, row_place, word_count, called_round, AreServed, Fault, AreApart, AreOfClients, fault_asks, met_by, AreNextAtSettling}
 use Rattle.pb_rule.specs.View.{PassView}
 
 abbrev pub first_of : List PassView → List PassView
@@ -49,8 +51,21 @@ abbrev pub AreEnded : Standing → History → Option Round → List Fault → L
 AreEnded start published ahead faults [] = Unit {0}
 AreEnded start published ahead faults (v ∷ views) = IsEnded start published ahead faults v × AreEnded start published ahead faults views
 
+-- this pass was answered an entry of the round
+pub record HasAnswered (round : Round) (v : PassView) : Type 0 where
+  pub entry : Entry
+  pub one : Contains round.entries entry
+  pub own : Contains (own_entries v.body) entry
+
+-- one of these was
+abbrev pub HasAnsweredOne : Round → List PassView → Type 0
+HasAnsweredOne round [] = ⊥
+HasAnsweredOne round (v ∷ views) = HasAnswered round v ⊎ HasAnsweredOne round views
+
 -- What all came to: rounds that are legal and published, and perhaps one in doubt, which is legal after them; the engine came by the published
--- ones from where it was shared, and each call of it that failed was answered as a fault to one of the clients; these lie apart
+-- ones from where it was shared, and each call of it that failed was answered as a fault to one of the clients, for its request, which a round
+-- that failed has, and which was its client's next one where a settling failed; the faults' intervals lie apart. Each round that was made has an
+-- entry that one of the passes was answered
 pub record HasEnded (kind : Kind) (start engine : EngineView) (views : List PassView) : Type 0 where
   pub published : History
   pub ahead : Option Round
@@ -59,7 +74,11 @@ pub record HasEnded (kind : Kind) (start engine : EngineView) (views : List Pass
   pub doubt : ((engine.sure ≡ true) × (ahead ≡ None)) ⊎ ((engine.sure ≡ false) × (called_round engine.doubt ≡ ahead))
   pub sound : IsEngine kind engine
   pub faults : List Fault
-  pub come : HasCome start engine published (length faults)
+  pub calls : List EngineCall
+  pub come : HasCome start engine published (length faults) calls
+  pub failed : AreMadeFor calls (fault_asks faults)
+  pub next_at : AreNextAtSettling start.standing (progress_of [] start) calls (fault_asks faults)
+  pub made : (round : Round) (ops : List LogOp) → Contains calls (Made round ops) → HasAnsweredOne round views
   pub apart : AreApart 0 faults engine.device.faults
   pub clients : AreOfClients start.standing.clients faults
   pub passes : AreEnded start.standing published ahead faults views

@@ -340,10 +340,11 @@ abbrev pub published_body : Bool → Reply → Client → Client
 published_body true reply body = answered reply (suc body.front) body
 published_body false reply body = record body { stage = Looking; front = suc body.front }
 
+-- it notes the number word of its row of that round, and the turn word
 abbrev pub published : EngineView → PassView → PassView
 published engine v = record v {
   body = published_body ((newest_of engine.standing v.client).number == v.body.ask.number) (newest_of engine.standing v.client).reply v.body;
-  notes = v.notes ++ Turn (2 * suc v.body.front) ∷ [];
+  notes = v.notes ++ Row (newest_of engine.standing v.client).number ∷ Turn (2 * suc v.body.front) ∷ [];
   served = v.served ++ own_round v.own;
   work = NoWork;
   hand = None;
@@ -357,7 +358,7 @@ publish_step me = lets_go (published (engine_before me)) me
 
 abbrev pub noted : (before after : EngineView) → PassView → PassView
 noted before after v = record v {
-  met = v.met ++ record { from = before.device.faults; to = after.device.faults } ∷ [];
+  met = v.met ++ record { ask = v.body.ask; from = before.device.faults; to = after.device.faults } ∷ [];
   work = GivingUp before.device.faults after.device.faults;
   hand = Some after;
 }

@@ -1,16 +1,20 @@
 -- The rule of the table: its words, the engine and the views are always those of a run of the core's moves.
-use Rattle.std.specs.Prelude.{◌≡◌, ◌≢◌, ℕ, suc, ◌+◌, ◌*◌, ◌<◌, ◌≤◌, ◌==◌, Bool, true, false, List, [], ◌∷◌, ◌++◌, length, Option, Some, None, slice_index}
+use Rattle.std.specs.Prelude.{◌≡◌, ◌≢◌, ◌⊎◌, ℕ, suc, ◌+◌, ◌*◌, ◌<◌, ◌≤◌, ◌==◌, Bool, true, false, List, [], ◌∷◌, ◌++◌, Contains, length, Option, Some, None, slice_index}
 use mathlib.Core.Option as maybe
 use mathlib.Core.Option.{some}
 use lib.ListN.{get_elem?}
 use Rattle.atomic_table.specs.Table.{State}
 use Rattle.pb_pmem.specs.Count.{Rose}
+use Rattle.pb_pmem.specs.declared.log.LogOp.{LogOp}
 use Rattle.pb_object.specs.declared.kind.Kind.{Kind}
-use Rattle.pb_object.specs.History.{Round, History, state_after}
-use Rattle.pb_object.specs.Standing.{Standing}
-use Rattle.pb_core.specs.Client.{Stage, Idle, Storing, Looking, LoadsNumber, LoadsCode, LoadsValue, LoadsExtra, Confirming, Lacking, Taking, Holding, is_holding}
+use Rattle.pb_object.specs.declared.request.Ask.{Ask}
+use Rattle.pb_object.specs.History.{Entry, Round, History, state_after}
+use Rattle.pb_object.specs.Standing.{Standing, newest_of}
+use Rattle.pb_core.specs.Client.{Stage, Idle, Storing, Looking, LoadsNumber, LoadsCode, LoadsValue, LoadsExtra, Confirming, Lacking, Taking, Holding, Client, is_holding, no_ask}
 use Rattle.pb_core.specs.Memory.{Owner, Free, Held, Closed, Work, NoWork, Settling, Scanning, Calling, Filling, Noting, GivingUp, Engine, Resting, Recorded, Writing, Doubtful, Memory, clients_of, known, coming, round_of_turn}
+use Rattle.pb_core.specs.MemoryParts.{own_entries}
 use Rattle.pb_core.specs.MemoryRun.{begun, MemoryRun}
+use Rattle.pb_engine.specs.Calls.{EngineCall, Made, Failed, Settled, FailedSettling, Progress, progress_of, after_call, HasRequest, AreMadeFor}
 use Rattle.pb_engine.specs.Good.{HasCome}
 use Rattle.pb_engine.specs.View.{EngineView, FailedRound, IsEngine}
 use Rattle.pb_rule.specs.View.{Met, OwnRound, PassView, numbers_of}
@@ -36,7 +40,7 @@ pub record HasWords (m : Memory) (words : List ℕ) : Type 0 where
 
 -- Faults
 
--- The faults that were answered, in order: each to one of the clients, and their intervals lie apart
+-- The faults that were answered, in order: each to one of the clients, for its request, and their intervals lie apart
 pub record Fault : Type 0 where
   pub client : ℕ
   pub met : Met
@@ -47,7 +51,7 @@ AreApart low (fault ∷ faults) high = (low ≤ fault.met.from) × Rose fault.me
 
 abbrev pub AreOfClients : ℕ → List Fault → Type 0
 AreOfClients clients [] = Unit {0}
-AreOfClients clients (fault ∷ faults) = (fault.client < clients) × AreOfClients clients faults
+AreOfClients clients (fault ∷ faults) = (fault.client < clients) × (fault.met.ask.client ≡ fault.client) × AreOfClients clients faults
 
 -- how many calls of the engine failed: one for each fault that was answered, and one that isn't noted yet
 abbrev pub failed_calls : Work → List Fault → ℕ
@@ -58,6 +62,71 @@ failed_calls Calling faults = length faults
 failed_calls (Filling count) faults = length faults
 failed_calls (Noting from to) faults = suc (length faults)
 failed_calls (GivingUp from to) faults = length faults
+
+abbrev pub fault_asks : List Fault → List Ask
+fault_asks [] = []
+fault_asks (fault ∷ faults) = fault.met.ask ∷ fault_asks faults
+
+-- the request that the holder of the turn has open, `no_ask` where nobody holds it
+abbrev pub asked_by : Owner → (ℕ → Client) → Ask
+asked_by Free book = no_ask
+asked_by (Held client side) book = (book client).ask
+asked_by Closed book = no_ask
+
+-- the requests of the calls that failed: of the faults that were answered, and the holder's, where its fault isn't noted yet
+abbrev pub failed_asks : Work → Ask → List Fault → List Ask
+failed_asks NoWork ask faults = fault_asks faults
+failed_asks Settling ask faults = fault_asks faults
+failed_asks (Scanning client part seen) ask faults = fault_asks faults
+failed_asks Calling ask faults = fault_asks faults
+failed_asks (Filling count) ask faults = fault_asks faults
+failed_asks (Noting from to) ask faults = fault_asks faults ++ ask ∷ []
+failed_asks (GivingUp from to) ask faults = fault_asks faults
+
+-- Settlings that failed
+
+-- a request is its client's next one on a standing
+abbrev pub IsNextOn : Standing → Ask → Type 0
+IsNextOn s ask = ask.number ≡ (newest_of s ask.client).number + 1
+
+-- where a settling failed, its request was its client's next one on what was recorded for sure by then: neither answered yet nor asked for
+-- only later
+abbrev pub AreNextAtSettling : Standing → Progress → List EngineCall → List Ask → Type 0
+AreNextAtSettling s p [] asks = Unit {0}
+AreNextAtSettling s p (Made round ops ∷ calls) asks = AreNextAtSettling s (after_call p (Made round ops)) calls asks
+AreNextAtSettling s p (Failed failed ops ∷ calls) [] = Unit {0}
+AreNextAtSettling s p (Failed failed ops ∷ calls) (ask ∷ asks) = AreNextAtSettling s (after_call p (Failed failed ops)) calls asks
+AreNextAtSettling s p (Settled ops ∷ calls) asks = AreNextAtSettling s (after_call p (Settled ops)) calls asks
+AreNextAtSettling s p (FailedSettling ops ∷ calls) [] = Unit {0}
+AreNextAtSettling s p (FailedSettling ops ∷ calls) (ask ∷ asks) =
+    IsNextOn (state_after s p.rounds) ask × AreNextAtSettling s (after_call p (FailedSettling ops)) calls asks
+
+-- Rounds that were made
+
+-- a client was answered an entry of it
+pub record HasAnsweredClient (clients : ℕ) (book : ℕ → Client) (round : Round) : Type 0 where
+  pub client : ℕ
+  pub there : client < clients
+  pub entry : Entry
+  pub one : Contains round.entries entry
+  pub own : Contains (own_entries (book client)) entry
+
+-- it is recorded, and waits to be published: the holder's request is in it
+pub record IsUnpublished (m : Memory) (round : Round) : Type 0 where
+  pub recorded : m.engine ≡ Recorded
+  pub ahead : m.ahead ≡ Some round
+  pub own : HasRequest round (asked_by m.owner m.book)
+
+abbrev pub AreAnsweredOrAhead : Memory → List EngineCall → Type 0
+AreAnsweredOrAhead m calls =
+    (round : Round) (ops : List LogOp) → Contains calls (Made round ops) → HasAnsweredClient (clients_of m) m.book round ⊎ IsUnpublished m round
+
+-- What the engine was called for: each call that failed for the request of whoever was answered the fault, or is about to note it; and each
+-- round that was made has an entry that a client was answered, or waits to be published and has the holder's request
+pub record AreCalledFor (start : EngineView) (m : Memory) (faults : List Fault) (calls : List EngineCall) : Type 0 where
+  pub failed : AreMadeFor calls (failed_asks m.work (asked_by m.owner m.book) faults)
+  pub next : AreNextAtSettling start.standing (progress_of [] start) calls (failed_asks m.work (asked_by m.owner m.book) faults)
+  pub made : AreAnsweredOrAhead m calls
 
 -- The engine
 
@@ -88,7 +157,9 @@ pub record IsTied (kind : Kind) (start : EngineView) (m : Memory) (engine : Engi
   pub standing : engine.standing ≡ known m
   pub count : engine.device.faults ≡ m.count
   pub suits : SuitsEngine m.engine m.ahead engine
-  pub come : HasCome start engine (recorded_by m.engine m.ahead m.published) (failed_calls m.work faults)
+  pub calls : List EngineCall
+  pub come : HasCome start engine (recorded_by m.engine m.ahead m.published) (failed_calls m.work faults) calls
+  pub called_for : AreCalledFor start m faults calls
   pub sound : IsEngine kind engine
 
 -- it lies in the slot while nobody holds the turn, and is with the holder else

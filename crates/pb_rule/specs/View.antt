@@ -1,5 +1,6 @@
 -- What a pass knows of a shared object. It stands in proofs alone.
 use Rattle.std.specs.Prelude.{ℕ, suc, List, [], ◌∷◌, map, Option, None}
+use Rattle.pb_object.specs.declared.request.Ask.{Ask}
 use Rattle.pb_object.specs.declared.request.Op.{Op}
 use Rattle.pb_object.specs.declared.request.Kept.{Kept}
 use Rattle.pb_object.specs.History.{Entry}
@@ -14,13 +15,14 @@ pub record Look : Type 0 where
   pub number : ℕ
   pub op : Option Op
 
--- A word that a pass met: a turn word, or the number word of its own published row
+-- A word that a pass met, or published: a turn word, or the number word of its own published row
 pub data Note : Type 0 where
   Turn : ℕ → Note
   Row : ℕ → Note
 
--- The counts of a fault that was answered
+-- A fault that was answered: the request that was open, and the device's counts before the call that failed and after it
 pub record Met : Type 0 where
+  pub ask : Ask
   pub from : ℕ
   pub to : ℕ
 
@@ -30,7 +32,7 @@ pub record OwnRound : Type 0 where
   pub entries : List Entry
   pub kept : List ℕ
 
--- What one pass knows: how many clients there are, and which one is its own; where it stands; the words that it met in the present or last call; whom it looked at since it last
+-- What one pass knows: how many clients there are, and which one is its own; where it stands; the words that it met or published in the present or last call; whom it looked at since it last
 -- took the turn; the faults that it was answered; the rounds that it served itself. And while it holds the turn: what it is at, the engine
 -- as of its last step, and the round that it fills from its own scan
 pub record PassView : Type 0 where

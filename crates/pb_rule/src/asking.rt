@@ -1,8 +1,6 @@
 //! The steps of a client that asks: it stores its request's code and arguments, and then its number.
 ghost use Rattle.std.specs.Prelude.{◌≡◌, ◌<◌, ◌≤◌, ◌+◌};
 ghost use Rattle.pb_core.specs.Client.{Idle, Storing, ask_word};
-ghost use Rattle.pb_object.specs.declared.request.TheConstants.{LAST_NUMBER};
-ghost use Rattle.pb_object.specs.Request.{IsOperation};
 ghost use Rattle.pb_rule.specs.Asked.{IsNextOf};
 ghost use Rattle.pb_rule.specs.Plays.{IsPlain, the_view, with_view, asked, stored, announced};
 ghost use Rattle.pb_rule.specs.Seats.{IsAt};

@@ -1,9 +1,9 @@
 //! What a holder asks of the engine in its slot, and what it has it do.
-ghost use Rattle.std.specs.Prelude.{◌≡◌, ◌<◌, true, false, IfOk, IfErr, Ok, OnOk, None, Some};
+ghost use Rattle.std.specs.Prelude.{◌≡◌, ◌<◌, true, false, IfErr, Ok, OnOk, None, Some};
 ghost use Rattle.pb_object.specs.Standing.{newest_of};
 ghost use Rattle.pb_engine.specs.Asks.{MayBeServed};
 ghost use Rattle.pb_engine.specs.View.{IsEngine, was_called};
-ghost use Rattle.pb_rule.specs.Plays.{HoldsSlot, the_view, engine_now};
+ghost use Rattle.pb_rule.specs.Plays.{HoldsSlot, engine_now};
 ghost use Rattle.pb_rule.specs.Ready.{Settled, FailedSettling, MadeRound, FailedRound};
 
 use crate::board::{Board, Place};

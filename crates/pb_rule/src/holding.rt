@@ -1,10 +1,10 @@
 //! The steps of the holder of the turn: it scans requests, stores reply rows and publishes, or stores the count of faults and gives up.
-ghost use Rattle.std.specs.Prelude.{◌≡◌, ◌<◌, ◌≤◌, ◌%◌, ◌+◌, ◌*◌, suc};
+ghost use Rattle.std.specs.Prelude.{◌≡◌, ◌<◌, ◌%◌, ◌+◌, ◌*◌, suc};
 ghost use Rattle.pb_core.specs.Client.{row_word as word_of_row};
-ghost use Rattle.pb_core.specs.Memory.{Filling, Noting, GivingUp};
+ghost use Rattle.pb_core.specs.Memory.{Filling};
 ghost use Rattle.pb_object.specs.Standing.{newest_of};
 ghost use Rattle.pb_rule.specs.Holding.{IsScanPlace, IsGivingUp, notes_now};
-ghost use Rattle.pb_rule.specs.Plays.{HoldsSlot, ScanIsOver, the_view, lets_go, scan_step, fill_step, publish_step, note_step, given_up, scanning_now, filling_now, engine_now, engine_before};
+ghost use Rattle.pb_rule.specs.Plays.{ScanIsOver, the_view, lets_go, scan_step, fill_step, publish_step, note_step, given_up, scanning_now, filling_now, engine_now, engine_before};
 ghost use Rattle.pb_rule.specs.Ready.{IsReadyFor, same_work};
 ghost use Rattle.pb_rule.specs.Seats.{IsAt};
 

@@ -1,5 +1,5 @@
 //! Making the table, giving each client a seat of its own, and taking the engine out again.
-ghost use Rattle.std.specs.Prelude.{◌≡◌, ◌<◌, ◌≤◌, ◌+◌, ◌*◌, ◌++◌, ◌∷◌, [], ℕ, true, length, slice_set, IfOk, IfErr, Some, vec_len};
+ghost use Rattle.std.specs.Prelude.{◌≡◌, ◌<◌, ◌≤◌, ◌+◌, ◌*◌, ◌++◌, ◌∷◌, [], ℕ, true, length, IfOk, IfErr, Some};
 ghost use Rattle.pb_core.specs.Client.{row_word as word_of_row};
 ghost use Rattle.pb_engine.specs.View.{IsEngine};
 ghost use Rattle.pb_object.specs.Standing.{Standing, newest_of};

@@ -1,8 +1,7 @@
 //! Taking the turn, and what a holder asks of the engine that it got with it.
-ghost use Rattle.std.specs.Prelude.{◌≡◌, ◌<◌, ◌≤◌, ◌+◌, ◌^◌, true, false, slice_index_or, Option, Some};
+ghost use Rattle.std.specs.Prelude.{◌≡◌, ◌<◌, ◌+◌, ◌^◌};
 ghost use Rattle.pb_core.specs.Client.{Taking};
-ghost use Rattle.pb_object.specs.Standing.{newest_of};
-ghost use Rattle.pb_rule.specs.Plays.{IsPlain, HoldsSlot, HasTakenOrMissed, the_view, first_turn, engine_now};
+ghost use Rattle.pb_rule.specs.Plays.{IsPlain, HasTakenOrMissed, the_view};
 ghost use Rattle.pb_rule.specs.Seats.{IsAt};
 
 use crate::board::{Board, Place};

@@ -1,8 +1,8 @@
 //! The steps of a client that waits for its reply: it loads the turn word and the words of its own row.
-ghost use Rattle.std.specs.Prelude.{◌≡◌, ◌<◌, ◌≤◌, ◌%◌, ◌+◌};
+ghost use Rattle.std.specs.Prelude.{◌≡◌, ◌<◌, ◌%◌};
 ghost use Rattle.pb_core.specs.Client.{Looking, LoadsNumber, Confirming, Lacking};
 ghost use Rattle.pb_core.specs.Memory.{round_of_turn};
-ghost use Rattle.pb_rule.specs.Plays.{IsPlain, IsNoEarlier, the_view, with_view, first_look, last_look, confirmed, confirms, row_number, row_word_found, first_turn, reply_found};
+ghost use Rattle.pb_rule.specs.Plays.{IsPlain, IsNoEarlier, the_view, with_view, first_look, last_look, confirms, row_number, row_word_found, first_turn, reply_found};
 ghost use Rattle.pb_rule.specs.Seats.{IsAt, IsRowPlace};
 
 use crate::board::{Board, Place};

@@ -1,11 +1,11 @@
 -- What the clients' lines and the end of a shared object say of a run.
-use Rattle.std.proofs.Common.{◌≡◌, ◌≢◌, ◌⊎◌, ℕ, zero, suc, ◌+◌, ◌<◌, ◌≤◌, eqb, Bool, true, false, cond, List, [], ◌∷◌, ◌++◌, length, Option, Some, None, IfSome, refl, sym, ap, subst, ◌∙◌, inl, inr, arith, length-append, eq-eqb, Contains}
+use Rattle.std.proofs.Common.{◌≡◌, ◌≢◌, ◌⊎◌, ℕ, zero, suc, ◌+◌, ◌<◌, ◌≤◌, eqb, Bool, true, false, cond, List, [], ◌∷◌, ◌++◌, length, map, Option, Some, None, IfSome, refl, sym, ap, subst, ◌∙◌, inl, inr, arith, length-append, eq-eqb, Contains}
 use Rattle.std.specs.List.{zip, filter, count_by}
 use Rattle.std.specs.Prelude.{slice_index_or}
-use Rattle.std.proofs.lemmas.Bool.{cases_lt, false≢true}
+use Rattle.std.proofs.lemmas.Bool.{cases_lt, ne_eqb, false≢true}
 use Rattle.std.proofs.lemmas.Bool.Decides.{nat_tests}
-use Rattle.std.proofs.lemmas.List.{append-nil}
-use Rattle.std.proofs.lemmas.List.Elements.{All-contains, All-contains_itself, All-filter, Contains-append_left, Contains-append_right, Contains-push, Contains-push_cases, Contains-append_cases}
+use Rattle.std.proofs.lemmas.List.{append-nil, length-map}
+use Rattle.std.proofs.lemmas.List.Elements.{All-contains, All-contains_itself, All-filter, Contains-append_left, Contains-append_right, Contains-push_cases, Contains-append_cases}
 use Rattle.pb_object.specs.declared.kind.Kind.{Kind}
 use Rattle.pb_object.specs.declared.request.Ask.{Ask}
 use Rattle.pb_object.specs.declared.request.Kept.{Kept as KeptRequest}
@@ -17,39 +17,24 @@ use Rattle.pb_core.specs.Memory.{coming}
 use Rattle.pb_core.specs.MemoryParts.{entries_with, entries_in, entries_ahead, own_entries, HasEntries}
 use Rattle.pb_core.proofs.Entries.{entries_in-append}
 use Rattle.pb_core.proofs.Histories.{legal-push}
-use Rattle.pb_engine.specs.Calls.{with_doubt, settled_rounds}
+use Rattle.pb_engine.specs.Calls.{with_doubt, settled_rounds, progress_of}
 use Rattle.pb_engine.specs.Good.{HasCome}
 use Rattle.pb_engine.specs.View.{EngineView, FailedRound}
 use Rattle.pb_report.specs.declared.outcome.Outcome.{Outcome}
 use Rattle.pb_report.specs.declared.outcome.Outcome.TheVariants.{New, Kept, Old, Gap, Changed, Doubt, Left}
 use Rattle.pb_report.specs.Outcomes.{AreLines, HasEntry, IsTriedLine, Outcomes, ask_of, entry_of, is_tried, lines_of_client}
 use Rattle.pb_report.proofs.GoingOn.{HasEntriesOf, lines_over}
-use Rattle.pb_rule.specs.Opening.{IsEnded, AreEnded, HasEnded}
-use Rattle.pb_rule.specs.Rule.{called_if, called_round, Fault, AreOfClients, met_if, met_by}
+use Rattle.pb_rule.specs.Opening.{IsEnded, AreEnded, HasAnswered, HasAnsweredOne, HasEnded}
+use Rattle.pb_rule.specs.Rule.{called_if, called_round, Fault, AreOfClients, fault_asks, met_if, met_by}
 use Rattle.pb_rule.specs.View.{PassView}
-use Rattle.pb_run.specs.Run.{is_doubt, AreNewRecorded, HasRun}
+use Rattle.pb_rule.proofs.Members.{contains-here, contains-there, contains-none, contains-one, contains-cases, of_all}
+use Rattle.pb_run.specs.Line.{met_ask}
+use Rattle.pb_run.specs.Lists.{asks_of}
+use Rattle.pb_run.specs.Run.{is_doubt, line_in_doubt, line_ask, asks_in_doubt, AreNewRecorded, AreCharged, HasNewLine, HasRun}
 use Rattle.pb_run.specs.Worker.{Line, is_new, new_count, doubt_count, own_history, IsPendingLine, IsSoFar}
 use Rattle.pb_run.proofs.Sums.{sum_below, sum-same, sum-most, tally, tally_with, AreBelow, tallies, tally-filter, tally-counts}
 
 -- Members
-
-contains-here : {A : Type 0} (x : A) (xs : List A) → Contains (x ∷ xs) x
-contains-here x xs = Contains-append_left (x ∷ []) xs x (Contains-push [] x)
-
-contains-there : {A : Type 0} (x y : A) (xs : List A) → Contains xs y → Contains (x ∷ xs) y
-contains-there x y xs is = Contains-append_right (x ∷ []) xs y is
-
-contains-none : {A : Type 0} (x : A) → Contains [] x → ⊥
-contains-none x is = omega (arith, is.1)
-
-contains-one : {A : Type 0} (x y : A) → Contains (x ∷ []) y → x ≡ y
-contains-one x y is = elim (Contains-push_cases [] x y is) [ inl none ↦ absurd (contains-none y none) | inr same ↦ same ]
-
-contains-cases : {A : Type 0} (x y : A) (xs : List A) → Contains (x ∷ xs) y → (x ≡ y) ⊎ Contains xs y
-contains-cases x y xs is = elim (Contains-append_cases (x ∷ []) xs y is) [
-  | inl one ↦ inl (contains-one x y one)
-  | inr more ↦ inr more
-]
 
 kept_in : {A : Type 0} (test : A → Bool) (xs : List A) (x : A) → test x ≡ true → Contains xs x → Contains (filter test xs) x
 kept_in test [] x passes is = absurd (contains-none x is)
@@ -78,17 +63,6 @@ with_client (first ∷ entries) entry is = go (with_client entries entry) (eqb f
     go rest true is_own (inr more) = contains-there first entry (entries_with entry.client entries) (rest more)
     go rest false other (inl same) = absurd (false≢true (sym other ∙ own same))
     go rest false other (inr more) = rest more
-
-of_all : (c : ℕ) (entries : List Entry) (entry : Entry) → Contains (entries_with c entries) entry → Contains entries entry
-of_all c [] entry is = is
-of_all c (first ∷ entries) entry is = go (of_all c entries entry) (eqb first.client c) is
-  where
-    go : (Contains (entries_with c entries) entry → Contains entries entry) → (b : Bool) → Contains (cond b (first ∷ entries_with c entries) (entries_with c entries)) entry → Contains (first ∷ entries) entry
-    go rest true own = elim (contains-cases first entry (entries_with c entries) own) [
-      | inl same ↦ subst (Contains (first ∷ entries)) same (contains-here first entries)
-      | inr more ↦ contains-there first entry entries (rest more)
-    ]
-    go rest false more = contains-there first entry entries (rest more)
 
 pub in_rounds : (history : History) (entry : Entry) → HasEntry history entry → Contains (entries_in entry.client history) entry
 in_rounds [] entry has = absurd (contains-none has.round has.told)
@@ -202,7 +176,7 @@ any_fault fault = true
 
 faults-below : (n : ℕ) (faults : List Fault) → AreOfClients n faults → AreBelow fault_client any_fault n faults
 faults-below n [] are = tt
-faults-below n (fault ∷ faults) are = (are.0, faults-below n faults are.1)
+faults-below n (fault ∷ faults) are = (are.0, faults-below n faults are.2)
 
 faults-all : (faults : List Fault) → tally fault_client any_fault faults ≡ length faults
 faults-all [] = refl
@@ -220,6 +194,23 @@ pub faults-sum : (n : ℕ) (faults : List Fault) → AreOfClients n faults → l
 faults-sum n faults are =
     sym (faults-all faults) ∙ (sym (tallies fault_client any_fault n faults (faults-below n faults are))
     ∙ sum-same n (λ c. tally_with fault_client any_fault c faults) (λ c. length (met_by c faults)) (λ c inside. faults-own c faults))
+
+-- the requests of one client's
+fault_asks-own : (n c : ℕ) (faults : List Fault) → AreOfClients n faults → asks_of c (fault_asks faults) ≡ map met_ask (met_by c faults)
+fault_asks-own n c [] are = refl
+fault_asks-own n c (fault ∷ faults) are =
+    ap (λ (k : ℕ). cond (eqb k c) (fault.met.ask ∷ asks_of c (fault_asks faults)) (asks_of c (fault_asks faults))) are.1
+    ∙ go (eqb fault.client c) (fault_asks-own n c faults are.2)
+  where
+    go : (b : Bool) → asks_of c (fault_asks faults) ≡ map met_ask (met_by c faults) → cond b (fault.met.ask ∷ asks_of c (fault_asks faults)) (asks_of c (fault_asks faults)) ≡ map met_ask (met_if b fault.met (met_by c faults))
+    go true rest = ap (λ (asks : List Ask). fault.met.ask ∷ asks) rest
+    go false rest = rest
+
+-- no fault is of a client that isn't there
+met_by-none : (n c : ℕ) (faults : List Fault) → n ≤ c → AreOfClients n faults → met_by c faults ≡ []
+met_by-none n c [] past are = refl
+met_by-none n c (fault ∷ faults) past are =
+    ap (λ (b : Bool). met_if b fault.met (met_by c faults)) (ne_eqb fault.client c (λ e. omega (arith, e, past, are.0))) ∙ met_by-none n c faults past are.2
 
 -- Lines of the clients
 
@@ -276,6 +267,37 @@ some-doubt ask (line ∷ lines) is = go (some-doubt ask lines) (is_doubt line.1)
     go rest true e found = omega arith
     go rest false e (inl same) = absurd (false≢true (sym e ∙ ap (λ (l : Line). is_doubt l.1) same))
     go rest false e (inr more) = rest more
+
+-- the requests in doubt are as many
+doubted-many : (lines : List Line) → length (asks_in_doubt lines) ≡ doubt_count lines
+doubted-many lines = by lines ∙ tally-counts line_client line_in_doubt lines
+  where
+    by : (lines : List Line) → length (asks_in_doubt lines) ≡ tally line_client line_in_doubt lines
+    by [] = refl
+    by (line ∷ lines) = go (is_doubt line.1) (by lines)
+      where
+        go : (b : Bool) → length (asks_in_doubt lines) ≡ tally line_client line_in_doubt lines → length (map line_ask (cond b (line ∷ filter line_in_doubt lines) (filter line_in_doubt lines))) ≡ cond b (1 + tally line_client line_in_doubt lines) (tally line_client line_in_doubt lines)
+        go true rest = omega (arith, rest)
+        go false rest = rest
+
+-- one client's are those of its lines
+doubted-own : (c : ℕ) (lines : List Line) → asks_of c (asks_in_doubt lines) ≡ asks_in_doubt (lines_of_client c lines)
+doubted-own c [] = refl
+doubted-own c (line ∷ lines) = go (is_doubt line.1) refl (eqb line.0.client c) refl (doubted-own c lines)
+  where
+    whole : List Line
+    whole = lines_of_client c lines
+
+    go : (b : Bool) → is_doubt line.1 ≡ b → (own : Bool) → eqb line.0.client c ≡ own → asks_of c (asks_in_doubt lines) ≡ asks_in_doubt (lines_of_client c lines)
+        → asks_of c (map line_ask (cond b (line ∷ filter line_in_doubt lines) (filter line_in_doubt lines))) ≡ asks_in_doubt (cond own (line ∷ lines_of_client c lines) (lines_of_client c lines))
+    go true doubt true own rest =
+        ap (λ (b : Bool). cond b (line.0 ∷ asks_of c (asks_in_doubt lines)) (asks_of c (asks_in_doubt lines))) own
+        ∙ (ap (λ (asks : List Ask). line.0 ∷ asks) rest ∙ sym (ap (λ (b : Bool). map line_ask (cond b (line ∷ filter line_in_doubt whole) (filter line_in_doubt whole))) doubt))
+    go true doubt false own rest =
+        ap (λ (b : Bool). cond b (line.0 ∷ asks_of c (asks_in_doubt lines)) (asks_of c (asks_in_doubt lines))) own ∙ rest
+    go false doubt true own rest =
+        rest ∙ sym (ap (λ (b : Bool). map line_ask (cond b (line ∷ filter line_in_doubt whole) (filter line_in_doubt whole))) doubt)
+    go false doubt false own rest = rest
 
 doubt-some : (lines : List Line) (ask : Ask) → Contains lines (ask, Doubt) → 1 ≤ doubt_count lines
 doubt-some lines ask is = omega (arith, some-doubt ask lines is, tally-counts line_client (λ line. is_doubt line.1) lines)
@@ -344,6 +366,19 @@ ended_at : (start : Standing) (published : History) (ahead : Option Round) (faul
 ended_at start published ahead faults [] k d inside are = absurd (omega (arith, inside))
 ended_at start published ahead faults (v ∷ views) zero d inside are = are.0
 ended_at start published ahead faults (v ∷ views) (suc k) d inside are = ended_at start published ahead faults views k d (omega (arith, inside)) are.1
+
+-- one of these passes was answered with a round
+record IsAnsweredAt (round : Round) (views : List PassView) (d : PassView) : Type 0 where
+  place : ℕ
+  inside : place < length views
+  has : HasAnswered round (slice_index_or views place d)
+
+answered_at : (round : Round) (views : List PassView) (d : PassView) → HasAnsweredOne round views → IsAnsweredAt round views d
+answered_at round [] d answered = absurd answered
+answered_at round (v ∷ views) d (inl here) = record { place = 0; inside = omega arith; has = here }
+answered_at round (v ∷ views) d (inr later) =
+    let at = answered_at round views d later in
+    record { place = suc at.place; inside = omega (arith, at.inside); has = at.has }
 
 module _ (kind : Kind) (start now : EngineView) (views : List PassView) (asks : List Ask) (list : List Outcome) (d : PassView)
     (ended : HasEnded kind start now views) (many : length views ≡ start.standing.clients)
@@ -472,6 +507,36 @@ module _ (kind : Kind) (start now : EngineView) (views : List PassView) (asks : 
         lines-sum start.standing.clients is_tried asks list same below,
       )
 
+  -- the faults that a client was answered are for its lines in doubt
+  met_asks : (k : ℕ) → k < start.standing.clients → map met_ask (met_by k ended.faults) ≡ asks_in_doubt (lines_of_client k (zip asks list))
+  met_asks k inside =
+      ap (λ (c : ℕ). map met_ask (met_by c ended.faults)) (sym (through k inside).client) ∙ (ap (map met_ask) (sym (end_of k inside).met) ∙ (through k inside).so.doubts)
+
+  charged : AreCharged start.standing (progress_of [] start) ended.calls (zip asks list)
+  charged = record {
+    asks = fault_asks ended.faults;
+    made_for = ended.failed;
+    next = ended.next_at;
+    each_client = λ k. fault_asks-own start.standing.clients k ended.faults ended.clients ∙ (by k (cases_lt k start.standing.clients) ∙ sym (doubted-own k (zip asks list)));
+  }
+    where
+      by : (k : ℕ) → (k < start.standing.clients) ⊎ (start.standing.clients ≤ k) → map met_ask (met_by k ended.faults) ≡ asks_in_doubt (lines_of_client k (zip asks list))
+      by k (inl inside) = met_asks k inside
+      by k (inr past) =
+          ap (map met_ask) (met_by-none start.standing.clients k ended.faults past ended.clients) ∙ sym (ap asks_in_doubt (lines_none k past))
+
+  -- a round that has an entry of a pass's own has that one's line
+  new_line_of : (round : Round) → HasAnsweredOne round views → HasNewLine (zip asks list) round
+  new_line_of round answered = by (answered_at round views d answered)
+    where
+      by : IsAnsweredAt round views d → HasNewLine (zip asks list) round
+      by at = record {
+        ask = ask_of at.has.entry;
+        reply = at.has.entry.reply;
+        line = kept_of (λ line. eqb line.0.client at.place) (zip asks list) (ask_of at.has.entry, New at.has.entry.reply) ((each at.place at.inside).so.told at.has.entry at.has.own);
+        entry = at.has.one;
+      }
+
   -- each line in doubt has its fault
   as_many_faults : length ended.faults ≡ count_by is_doubt list
   as_many_faults =
@@ -480,7 +545,7 @@ module _ (kind : Kind) (start now : EngineView) (views : List PassView) (asks : 
     where
       at : (k : ℕ) → k < start.standing.clients → length (met_by k ended.faults) ≡ count_by (λ line. is_doubt line.1) (lines_of_client k (zip asks list))
       at k inside =
-          ap (λ (c : ℕ). length (met_by c ended.faults)) (sym (through k inside).client) ∙ (ap length (sym (end_of k inside).met) ∙ (through k inside).so.doubts)
+          sym (length-map (met_by k ended.faults) met_ask) ∙ (ap length (met_asks k inside) ∙ doubted-many (lines_of_client k (zip asks list)))
 
   new_recorded : AreNewRecorded ended.published (zip asks list)
   new_recorded ask reply line =
@@ -502,7 +567,10 @@ module _ (kind : Kind) (start now : EngineView) (views : List PassView) (asks : 
   pub has_run : HasRun start asks now list
   has_run = record {
     rounds = ended.published;
-    come = subst (HasCome start now ended.published) as_many_faults ended.come;
+    calls = ended.calls;
+    come = subst (λ (failures : ℕ). HasCome start now ended.published failures ended.calls) as_many_faults ended.come;
+    charged = charged;
+    made = λ round ops call. new_line_of round (ended.made round ops call);
     outcomes = outcomes_with ended.published ended.legal own_published told_published;
     settled = subst (λ (h : History). Outcomes start.standing h asks list) (sym settled_ahead) (outcomes_with (ended.published ++ coming ended.ahead) ahead_legal own_whole told_whole);
     recorded = new_recorded;

@@ -1,21 +1,26 @@
 -- What asking again says of a line's outcome.
-use Rattle.std.proofs.Common.{◌≡◌, ◌≢◌, ℕ, suc, ◌+◌, ◌<◌, ◌≤◌, leb, eqb, Bool, true, false, cond, List, [], ◌∷◌, length, Option, Some, None, refl, sym, ap, subst, ◌∙◌, arith}
+use Rattle.std.proofs.Common.{◌≡◌, ◌≢◌, ℕ, suc, ◌+◌, ◌<◌, ◌≤◌, leb, eqb, Bool, true, false, cond, List, [], ◌∷◌, ◌++◌, length, map, Option, Some, None, refl, sym, ap, subst, ◌∙◌, arith}
 use Rattle.std.proofs.lemmas.Bool.Decides.{nat_tests}
+use Rattle.std.proofs.lemmas.List.{map-append}
 use Rattle.pb_object.specs.declared.request.Ask.{Ask}
 use Rattle.pb_object.specs.declared.request.Kept.{Kept as KeptRequest}
 use Rattle.pb_object.specs.declared.request.Op.{Op}
 use Rattle.pb_object.specs.KeptLists.{IsKeptList, kept_number}
 use Rattle.pb_object.specs.Standing.{newest}
+use Rattle.pb_core.specs.Client.{Client}
+use Rattle.pb_core.specs.MemoryParts.{own_entries}
 use Rattle.pb_object.proofs.KeptLists.{at_most_newest}
 use Rattle.pb_report.specs.declared.outcome.Outcome.{Outcome}
 use Rattle.pb_report.specs.declared.outcome.Outcome.TheVariants as outcome
 use Rattle.pb_report.specs.Outcomes.{decided_outcome, is_same_op, kept_with, outcome_by}
 use Rattle.pb_rule.specs.View.{PassView}
+use Rattle.pb_shared.specs.declared.answers.Attempt.TheVariants.{Fault}
 use Rattle.pb_shared.specs.declared.answers.Again.{Again}
 use Rattle.pb_shared.specs.declared.answers.Again.TheVariants.{Announced, Kept, Old, Gap, Changed}
 use Rattle.pb_shared.specs.Kept.{again_on, again_by}
 use Rattle.pb_shared.specs.Passes.{PassSeen, announces}
-use Rattle.pb_run.specs.Line.{TriesAsk, DecidesOrTries, RunsLine}
+use Rattle.pb_shared.specs.Tries.{HasTried}
+use Rattle.pb_run.specs.Line.{met_ask, asks_met, StaysOpen, TriesAsk, DecidesOrTries, RunsLine}
 
 -- the outcome that asking again decides, and none where the request is announced
 abbrev pub outcome_of : Again → Option Outcome
@@ -87,3 +92,13 @@ pub tries_after : (left : Bool) (ask : Ask) (old : PassSeen) (between new : Pass
 tries_after left ask old between new o goes is judged_is announced tried =
     goes_by left ask old.view new.view o Announced goes is judged_is
     (from_idle ask.op ask old new.view o (subst (λ (p : PassSeen). TriesAsk ask p.view new.view o) announced tried))
+
+-- a fault leaves the request in doubt
+pub left_in_doubt : (ask : Ask) (old new : PassView) (from to : ℕ) → old.body.ask ≡ ask → HasTried old new (Fault from to) → StaysOpen ask old new
+left_in_doubt ask old new from to asked tried = record {
+  mine = ap own_entries tried.0.body;
+  kept = ap (λ (b : Client). b.kept) tried.0.body;
+  pending = ap (λ (b : Client). b.stage) tried.0.body;
+  asked = ap (λ (b : Client). b.ask) tried.0.body ∙ asked;
+  met = ap (map met_ask) tried.1 ∙ (map-append met_ask old.met (record { ask = old.body.ask; from = from; to = to } ∷ []) ∙ ap (λ (a : Ask). asks_met old ++ a ∷ []) asked);
+}

@@ -1,11 +1,11 @@
 -- A worker's lines, one more after the other.
-use Rattle.std.proofs.Common.{◌≡◌, ◌⊎◌, ℕ, ◌+◌, ◌<◌, ◌≤◌, leb, eqb, Bool, true, false, cond, List, [], ◌∷◌, ◌++◌, length, take, Option, Some, None, refl, sym, ap, subst, ◌∙◌, inl, inr, arith, length-append, Contains}
-use Rattle.std.specs.List.{zip, count_by}
+use Rattle.std.proofs.Common.{◌≡◌, ◌⊎◌, ℕ, ◌+◌, ◌<◌, ◌≤◌, leb, eqb, Bool, true, false, cond, List, [], ◌∷◌, ◌++◌, length, map, take, Option, Some, None, refl, sym, ap, subst, ◌∙◌, inl, inr, arith, length-append, Contains}
+use Rattle.std.specs.List.{zip, count_by, filter}
 use Rattle.std.specs.Prelude.{slice_index_or, slice_set}
 use Rattle.std.proofs.lemmas.Bool.{false≢true}
 use Rattle.std.proofs.lemmas.Bool.Decides.{nat_tests}
-use Rattle.std.proofs.lemmas.List.{take_more, take_more_set, take_all, length-set, length-take}
-use Rattle.std.proofs.lemmas.List.Elements.{Contains-append_left, Contains-push, Contains-push_cases}
+use Rattle.std.proofs.lemmas.List.{append-nil, map-append, take_more, take_more_set, take_all, length-set, length-take}
+use Rattle.std.proofs.lemmas.List.Elements.{filter-append, Contains-append_left, Contains-push, Contains-push_cases}
 use Rattle.std.proofs.lemmas.List.Sums.{sum_by-append}
 use Rattle.pb_object.specs.declared.kind.Kind.{Kind}
 use Rattle.pb_object.specs.declared.request.Ask.{Ask}
@@ -25,8 +25,8 @@ use Rattle.pb_report.specs.GoingOn.{is_ending, kept_next}
 use Rattle.pb_report.proofs.GoingOn.{IsNextLine, HasEntriesOf}
 use Rattle.pb_rule.specs.View.{PassView}
 use Rattle.pb_shared.specs.Passes.{PassSeen, SharedSeen}
-use Rattle.pb_run.specs.Line.{DecidesOrTries, RunsLine, IsServed, StaysOpen, TriesAsk, ends_run}
-use Rattle.pb_run.specs.Run.{is_doubt}
+use Rattle.pb_run.specs.Line.{met_ask, DecidesOrTries, RunsLine, IsServed, StaysOpen, TriesAsk, ends_run}
+use Rattle.pb_run.specs.Run.{is_doubt, line_in_doubt, line_ask, asks_in_doubt}
 use Rattle.pb_run.specs.Worker.{Line, is_new, own_history, IsPendingLine, IsSoFar, IsReady}
 use Rattle.pb_run.proofs.LineLemmas.{IsClientSoFar, next_line, left_line, zip-push}
 
@@ -47,6 +47,18 @@ counted test lines ask o is = counts test lines ask o true is
 uncounted : (test : Outcome → Bool) (lines : List Line) (ask : Ask) (o : Outcome) → test o ≡ false
     → count_by (λ line. test line.1) (lines ++ (ask, o) ∷ []) ≡ count_by (λ line. test line.1) lines
 uncounted test lines ask o is = let more = counts test lines ask o false is in omega (arith, more)
+
+-- the requests in doubt
+in_doubt_append : (lines : List Line) (ask : Ask) (o : Outcome) → asks_in_doubt (lines ++ (ask, o) ∷ []) ≡ asks_in_doubt lines ++ asks_in_doubt ((ask, o) ∷ [])
+in_doubt_append lines ask o =
+    ap (map line_ask) (filter-append line_in_doubt lines ((ask, o) ∷ [])) ∙ map-append line_ask (filter line_in_doubt lines) (filter line_in_doubt ((ask, o) ∷ []))
+
+none_in_doubt : (lines : List Line) (ask : Ask) (o : Outcome) → is_doubt o ≡ false → asks_in_doubt (lines ++ (ask, o) ∷ []) ≡ asks_in_doubt lines
+none_in_doubt lines ask o is =
+    in_doubt_append lines ask o ∙ (ap (λ (b : Bool). asks_in_doubt lines ++ map line_ask (cond b ((ask, o) ∷ []) [])) is ∙ append-nil (asks_in_doubt lines))
+
+one_in_doubt : (lines : List Line) (ask : Ask) → asks_in_doubt (lines ++ (ask, Doubt) ∷ []) ≡ asks_in_doubt lines ++ ask ∷ []
+one_in_doubt lines ask = in_doubt_append lines ask Doubt
 
 -- Outcomes that kept requests decide
 
@@ -127,7 +139,7 @@ module _ (first : List KeptRequest) (lines : List Line) (ask : Ask) where
     ];
     told = λ entry own. Contains-append_left lines ((ask, o) ∷ []) (ask_of entry, New entry.reply) (so.told entry own);
     new_lines = so.new_lines ∙ sym (uncounted is_new lines ask o is.new);
-    doubts = so.doubts ∙ sym (uncounted is_doubt lines ask o is.doubt);
+    doubts = so.doubts ∙ sym (none_in_doubt lines ask o is.doubt);
   }
 
   decided_line : {v : PassView} (o : Outcome) → IsSoFar first lines false v → decided_outcome v.body.kept ask ≡ Some o → IsSoFar first (lines ++ (ask, o) ∷ []) (ends_run o) v
@@ -172,7 +184,7 @@ module _ (first : List KeptRequest) (lines : List Line) (ask : Ask) where
           | inr same ↦ subst (λ (e : Entry). Contains (lines ++ (ask, New reply) ∷ []) (ask_of e, New e.reply)) same (Contains-push lines (ask, New reply))
         ];
         new_lines = ap length served.mine ∙ (length-append (own_entries v.body) (entry ∷ []) ∙ (ap (λ (n : ℕ). n + 1) so.new_lines ∙ sym (counted is_new lines ask (New reply) refl)));
-        doubts = ap length served.met ∙ (so.doubts ∙ sym (uncounted is_doubt lines ask (New reply) refl));
+        doubts = ap (map met_ask) served.met ∙ (so.doubts ∙ sym (none_in_doubt lines ask (New reply) refl));
       }
     where
       earlier : (entry : Entry) → Contains (own_entries v.body) entry → Contains (own_entries w.body) entry
@@ -200,7 +212,7 @@ module _ (first : List KeptRequest) (lines : List Line) (ask : Ask) where
         ];
         told = λ one own. Contains-append_left lines ((ask, Doubt) ∷ []) (ask_of one, New one.reply) (so.told one (subst (λ (es : List Entry). Contains es one) stays.mine own));
         new_lines = ap length stays.mine ∙ (so.new_lines ∙ sym (uncounted is_new lines ask Doubt refl));
-        doubts = stays.met ∙ (ap (λ (n : ℕ). n + 1) so.doubts ∙ sym (counted is_doubt lines ask Doubt refl));
+        doubts = stays.met ∙ (ap (λ (asks : List Ask). asks ++ ask ∷ []) so.doubts ∙ sym (one_in_doubt lines ask));
       }
     where
       more : HasEntriesOf (own_history w) (own_history v)
@@ -244,7 +256,7 @@ at_first {pass = pass} ready = record {
   recorded = λ ask reply line. absurd (omega (arith, line.1));
   told = λ entry own. absurd (none (subst (λ (es : List Entry). Contains es entry) entries own));
   new_lines = ap length entries;
-  doubts = ap length ready.calm;
+  doubts = ap (map met_ask) ready.calm;
 }
   where
     entries : own_entries pass.view.body ≡ []

@@ -1,5 +1,5 @@
 -- What becomes of one request of a pass.
-use Rattle.std.specs.Prelude.{◌≡◌, ◌+◌, Bool, true, false, [], ◌∷◌, ◌++◌, length, Option, Some, None}
+use Rattle.std.specs.Prelude.{◌≡◌, Bool, true, false, List, [], ◌∷◌, ◌++◌, map, Option, Some, None}
 use Rattle.pb_object.specs.declared.request.Ask.{Ask}
 use Rattle.pb_object.specs.declared.request.Reply.{Reply}
 use Rattle.pb_object.specs.History.{kept_by}
@@ -9,7 +9,7 @@ use Rattle.pb_core.specs.MemoryParts.{own_entries}
 use Rattle.pb_report.specs.declared.outcome.Outcome.{Outcome}
 use Rattle.pb_report.specs.declared.outcome.Outcome.TheVariants.{New, Gap, Changed, Doubt, Left}
 use Rattle.pb_report.specs.Outcomes.{decided_outcome, entry_of}
-use Rattle.pb_rule.specs.View.{PassView}
+use Rattle.pb_rule.specs.View.{Met, PassView}
 
 -- it is recorded with this reply: it is the last of the pass's entries, and its newest kept request
 pub record IsServed (ask : Ask) (reply : Reply) (old new : PassView) : Type 0 where
@@ -18,13 +18,20 @@ pub record IsServed (ask : Ask) (reply : Reply) (old new : PassView) : Type 0 wh
   pub idle : new.body.stage ≡ Idle
   pub met : new.met ≡ old.met
 
--- it is in doubt: a fault was answered, and it stays announced
+abbrev pub met_ask : Met → Ask
+met_ask met = met.ask
+
+-- the requests for which faults were answered
+abbrev pub asks_met : PassView → List Ask
+asks_met v = map met_ask v.met
+
+-- it is in doubt: a fault was answered for it, and it stays announced
 pub record StaysOpen (ask : Ask) (old new : PassView) : Type 0 where
   pub mine : own_entries new.body ≡ own_entries old.body
   pub kept : new.body.kept ≡ old.body.kept
   pub pending : new.body.stage ≡ Looking
   pub asked : new.body.ask ≡ ask
-  pub met : length new.met ≡ length old.met + 1
+  pub met : asks_met new ≡ asks_met old ++ ask ∷ []
 
 -- a request was tried
 abbrev pub TriesAsk : Ask → PassView → PassView → Outcome → Type 0

@@ -16,7 +16,8 @@ use Rattle.pb_report.specs.GoingOn.{has_ended, kept_after}
 use Rattle.pb_rule.specs.View.{PassView}
 use Rattle.pb_script.specs.Script.{IsAskOf}
 use Rattle.pb_shared.specs.Passes.{PassSeen, SharedSeen, IsOf}
-use Rattle.pb_run.specs.Run.{is_doubt}
+use Rattle.pb_run.specs.Line.{asks_met}
+use Rattle.pb_run.specs.Run.{is_doubt, asks_in_doubt}
 
 abbrev pub Line : Type 0
 Line = Ask × Outcome
@@ -48,7 +49,7 @@ pub record IsPendingLine (lines : List Line) (v : PassView) : Type 0 where
   pub line : Contains lines (v.body.ask, Doubt)
 
 -- these lines of a client have their outcomes, by the pass's own entries; and whether its further ones are left. Each new line has its
--- entry, each entry its new line, and each line in doubt its fault
+-- entry, each entry its new line, and each line in doubt the fault that was answered for it
 pub record IsSoFar (first : List KeptRequest) (lines : List Line) (left : Bool) (v : PassView) : Type 0 where
   pub are : AreLines (own_history v) first lines
   pub ended : has_ended lines ≡ left
@@ -59,7 +60,7 @@ pub record IsSoFar (first : List KeptRequest) (lines : List Line) (left : Bool) 
   pub recorded : (ask : Ask) (reply : Reply) → Contains lines (ask, New reply) → Contains (own_entries v.body) (entry_of ask reply)
   pub told : (entry : Entry) → Contains (own_entries v.body) entry → Contains lines (ask_of entry, New entry.reply)
   pub new_lines : length (own_entries v.body) ≡ new_count lines
-  pub doubts : length v.met ≡ doubt_count lines
+  pub doubts : asks_met v ≡ asks_in_doubt lines
 
 -- a pass that has asked for nothing yet, and requests of its client
 pub record IsReady (kind : Kind) (object : SharedSeen) (pass : PassSeen) (asks : List Ask) : Type 0 where

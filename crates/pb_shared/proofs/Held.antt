@@ -20,7 +20,7 @@ use Rattle.pb_engine.specs.Asks.{MayBeServed, answered_from, asked_round}
 use Rattle.pb_engine.specs.View.{EngineView, IsEngine, FailedRound, settled_standing, settled_by, was_called}
 use Rattle.pb_engine.proofs.Joining.{round_kept}
 use Rattle.pb_engine.proofs.Served.{answered_from-none, answered_from-more, served_is_legal}
-use Rattle.pb_rule.specs.View.{Turn, Met, Look, OwnRound, PassView, view_in, numbers_of}
+use Rattle.pb_rule.specs.View.{Turn, Row, Look, OwnRound, PassView, view_in, numbers_of}
 use Rattle.pb_rule.specs.Plays.{Seated, the_view, IsPlain, HoldsSlot, engine_or, engine_before, engine_now, scanning_now, filling_now, own_by, own_round, published_body, first_work, AsksFor}
 use Rattle.pb_rule.specs.Ready.{Settled, FailedSettling, MadeRound, FailedRound as FailedMaking, untouched, settled_none, settled_round, recorded, failed_settling, failed_round}
 use Rattle.pb_shared.specs.declared.answers.Attempt.TheVariants.{Done, Busy, Fault}
@@ -47,12 +47,16 @@ done_by v old w engine own kept body met notes is kept_is number serves = (
   ap (λ (u : PassView). u.body) is ∙ (mine ∙ (λ i. answered (reply i) (front i) (body i))),
   sym front ∙ ap (λ (b : Client). suc b.front) body,
   ap (λ (u : PassView). u.met) is ∙ met,
-  ap (λ (u : PassView). u.notes) is ∙ (λ i. notes i ++ Turn (2 * suc (body i).front) ∷ []),
+  ap (λ (u : PassView). u.notes) is ∙ (λ i. notes i ++ Row (own_number i) ∷ Turn (2 * suc (body i).front) ∷ []),
   serves,
 )
   where
     newest : Kept
     newest = newest_of engine.standing v.client
+
+    own_number : (newest_of engine.standing v.client).number ≡ old.body.ask.number
+    own_number =
+        ap (λ (k : Kept). k.number) (sym kept_is) ∙ (number ∙ ap (λ (b : Client). b.ask.number) body)
 
     same : eqb (newest_of engine.standing v.client).number v.body.ask.number ≡ true
     same = eq-eqb _ _ (ap (λ (k : Kept). k.number) (sym kept_is) ∙ number)
@@ -77,7 +81,11 @@ settled_busy v w engine kept turn is kept_is other turn_is = (
   sym front,
   turn_is,
   refl,
-  ap (λ (u : PassView). u.notes) is ∙ ap (λ (n : ℕ). v.notes ++ Turn n ∷ []) next,
+  record {
+    kept = kept.number;
+    notes = ap (λ (u : PassView). u.notes) is ∙ (λ i. v.notes ++ Row (sym kept_is i).number ∷ Turn (next i) ∷ []);
+    lacks = other;
+  },
   ap (λ (u : PassView). u.looked) is,
   ap (λ (u : PassView). u.served) is ∙ append-nil v.served,
 )
@@ -106,7 +114,7 @@ fault_held v old w fault body met notes served rose is = (
     body = ap (λ (u : PassView). u.body) is ∙ (λ i. record (body i) { stage = Looking; front = sym front i });
     front = omega (arith, front, ap (λ (b : Client). b.front) body);
   },
-  ap (λ (u : PassView). u.met) is ∙ ap (λ (m : List Met). m ++ record { from = fault.from; to = fault.to } ∷ []) met,
+  ap (λ (u : PassView). u.met) is ∙ (λ i. met i ++ record { ask = (body i).ask; from = fault.from; to = fault.to } ∷ []),
   front ∙ ap (λ (b : Client). b.front) body,
   rose,
   ap (λ (u : PassView). u.notes) is ∙ notes,

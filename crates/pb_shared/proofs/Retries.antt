@@ -1,9 +1,9 @@
 -- Tries one after the other.
-use Rattle.std.proofs.Common.{◌≡◌, ℕ, List, [], ◌∷◌, ◌++◌, arith, refl, ap, ◌∙◌, subst, inl, inr}
+use Rattle.std.proofs.Common.{◌≡◌, ℕ, [], ◌∷◌, ◌++◌, arith, refl, ap, ◌∙◌, subst}
 use Rattle.pb_object.specs.declared.request.Reply.{Reply}
 use Rattle.pb_core.specs.Client.{Client, Stage, Looking}
 use Rattle.pb_core.specs.WordMoves.{answered}
-use Rattle.pb_rule.specs.View.{Met, OwnRound, Note, PassView}
+use Rattle.pb_rule.specs.View.{PassView}
 use Rattle.pb_shared.specs.declared.answers.Attempt.{Attempt}
 use Rattle.pb_shared.specs.declared.answers.Attempt.TheVariants.{Done, Busy, Fault}
 use Rattle.pb_shared.specs.declared.answers.Performed.TheVariants as performed
@@ -52,7 +52,7 @@ performs old now new answer reply waited tried is = (
 pub fails : (old now new : PassView) (answer : Attempt) (from to : ℕ) → HasWaited old now → HasTried now new answer → answer ≡ Fault from to → HasPerformed old new (performed.Fault from to)
 fails old now new answer from to waited tried is = (
   open_still new waited.stays fault.0,
-  fault.1 ∙ ap (λ (met : List Met). met ++ record { from = from; to = to } ∷ []) waited.met,
+  fault.1 ∙ (λ i. waited.met i ++ record { ask = (waited.stays.body i).ask; from = from; to = to } ∷ []),
   fault.2,
   fault.3 ∙ waited.served,
   subst (λ (n : ℕ). HasFailedHolding n new) (same_number waited.stays) fault.4,

@@ -93,9 +93,9 @@ pub done_as : {v old new : PassView} → old.body.ask.number ≡ v.body.ask.numb
 done_as number same (read_row from to notes round front served) =
     read_row from to (notes ∙ ap (λ (n : ℕ). Turn from ∷ Row n ∷ Turn to ∷ []) number) round front (served ∙ same)
 done_as {new = new} number same (had_turn turn had front (inl settles)) =
-    had_turn turn (subst (λ (n : ℕ). HasHadTurn n turn (Turn (turn + 2) ∷ []) new.notes) number had) front (inl (settles.0, settles.1 ∙ same))
+    had_turn turn (subst (λ (n : ℕ). HasHadTurn n turn (Row n ∷ Turn (turn + 2) ∷ []) new.notes) number had) front (inl (settles.0, settles.1 ∙ same))
 done_as {new = new} number same (had_turn turn had front (inr own)) =
-    had_turn turn (subst (λ (n : ℕ). HasHadTurn n turn (Turn (turn + 2) ∷ []) new.notes) number had) front (inr (combined_as same own))
+    had_turn turn (subst (λ (n : ℕ). HasHadTurn n turn (Row n ∷ Turn (turn + 2) ∷ []) new.notes) number had) front (inr (combined_as same own))
 
 -- what a try comes to after the first two words is what it comes to
 pub rest_tried : (v w : PassView) (turn found : ℕ) (answer : Attempt) → v.body.front ≤ round_of_turn turn → HasTried (looked_at turn found v) w answer → HasTried v w answer
@@ -138,14 +138,17 @@ module _ (v t w : PassView) (turn found : ℕ) (engine : EngineView) (is : t ≡
   same_front : t.body.front ≤ w.body.front → v.body.front ≤ w.body.front
   same_front = subst (λ (n : ℕ). n ≤ w.body.front) (ap (λ (u : PassView). u.body.front) is)
 
-  -- it published this turn word
-  had : (published : ℕ) → w.notes ≡ t.notes ++ Turn published ∷ [] → HasHadTurn v.body.ask.number turn (Turn published ∷ []) w.notes
+  -- it published these words
+  had : (published : List Note) → w.notes ≡ t.notes ++ published → HasHadTurn v.body.ask.number turn published w.notes
   had published more = record {
     found = found;
-    met = more ∙ ap (λ (l : List Note). l ++ Turn published ∷ []) notes_taken;
+    met = more ∙ ap (λ (l : List Note). l ++ published) notes_taken;
     lacks = other;
     free = free;
   }
+
+  same_number : t.body.ask.number ≡ v.body.ask.number
+  same_number = ap (λ (u : PassView). u.body.ask.number) is
 
   next_turn : 2 * suc t.body.front ≡ turn + 2
   next_turn = omega (arith, front_taken, free)
@@ -158,7 +161,7 @@ module _ (v t w : PassView) (turn found : ℕ) (engine : EngineView) (is : t ≡
     held.0 ∙ (λ i. answered reply w.body.front (ap (λ (u : PassView). u.body) is i)),
     same_front (omega (arith, held.1)),
     held.2 ∙ ap (λ (u : PassView). u.met) is,
-    had_turn turn (had (turn + 2) (held.3 ∙ ap (λ (n : ℕ). t.notes ++ Turn n ∷ []) next_turn)) (next_front held.1) (serves held.4),
+    had_turn turn (had (Row v.body.ask.number ∷ Turn (turn + 2) ∷ []) (held.3 ∙ (λ i. t.notes ++ Row (same_number i) ∷ Turn (next_turn i) ∷ []))) (next_front held.1) (serves held.4),
   )
     where
       serves : Serves t.looked t w → Serves [] v w
@@ -172,7 +175,7 @@ module _ (v t w : PassView) (turn found : ℕ) (engine : EngineView) (is : t ≡
     held.1 ∙ ap (λ (u : PassView). u.met) is,
     omega (arith, held.2, held.3, held.4),
     held.7 ∙ same_served,
-    settled (subst (λ (n : ℕ). HasHadTurn v.body.ask.number n (Turn to ∷ []) w.notes) (sym from_is) (had to held.5)) held.4 (held.6 ∙ ap (λ (u : PassView). u.looked) is),
+    settled held.5.kept (subst (λ (n : ℕ). HasHadTurn v.body.ask.number n (Row held.5.kept ∷ Turn to ∷ []) w.notes) (sym from_is) (had (Row held.5.kept ∷ Turn to ∷ []) held.5.notes)) (λ e. held.5.lacks (e ∙ sym same_number)) held.4 (held.6 ∙ ap (λ (u : PassView). u.looked) is),
   )
     where
       from_is : from ≡ turn
@@ -182,7 +185,7 @@ module _ (v t w : PassView) (turn found : ℕ) (engine : EngineView) (is : t ≡
       body = held.0.body ∙ ap (λ (u : PassView). record u.body { stage = Looking; front = w.body.front }) is;
       front = same_front held.0.front;
     },
-    held.1 ∙ ap (λ (u : PassView). u.met ++ record { from = from; to = to } ∷ []) is,
+    held.1 ∙ ap (λ (u : PassView). u.met ++ record { ask = u.body.ask; from = from; to = to } ∷ []) is,
     held.3,
     held.5 ∙ same_served,
     record {

@@ -4,7 +4,7 @@ use Rattle.pb_object.specs.declared.kind.Kind.{Kind}
 use Rattle.pb_object.specs.Standing.{newest_of}
 use Rattle.pb_core.specs.Memory.{NoWork, Filling}
 use Rattle.pb_engine.specs.View.{EngineView}
-use Rattle.pb_rule.specs.View.{Turn, OwnRound, PassView}
+use Rattle.pb_rule.specs.View.{Turn, Row, OwnRound, PassView}
 use Rattle.pb_rule.specs.Plays.{Seated, the_view, engine_before, engine_now, filling_now, own_by, own_round, published_body}
 use Rattle.pb_rule.specs.Ready.{IsReadyFor}
 
@@ -32,7 +32,7 @@ pub record HasFilling {X : Type 0} (seen : X → EngineView) (kind : Kind) (coun
 abbrev pub after_publishing : EngineView → Option OwnRound → PassView → PassView
 after_publishing engine own v = record v {
   body = published_body ((newest_of engine.standing v.client).number == v.body.ask.number) (newest_of engine.standing v.client).reply v.body;
-  notes = v.notes ++ Turn (2 * suc v.body.front) ∷ [];
+  notes = v.notes ++ Row (newest_of engine.standing v.client).number ∷ Turn (2 * suc v.body.front) ∷ [];
   served = v.served ++ own_round own;
   work = NoWork;
   hand = None;

@@ -35,7 +35,7 @@ pub record HasFailed {X : Type 0} (seen : X → EngineView) (kind : Kind) (fault
 abbrev pub after_fault : DeviceFault → PassView → PassView
 after_fault fault v = record v {
   body = go_to Looking v.body;
-  met = v.met ++ record { from = fault.from; to = fault.to } ∷ [];
+  met = v.met ++ record { ask = v.body.ask; from = fault.from; to = fault.to } ∷ [];
   work = NoWork;
   hand = None;
   own = None;

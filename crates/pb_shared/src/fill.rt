@@ -1,5 +1,5 @@
 //! Storing the next reply row, and publishing.
-ghost use Rattle.std.specs.Prelude.{◌≡◌, ◌<◌, ◌≤◌, ◌+◌, ◌*◌, ◌%◌, ◌∷◌, [], ℕ, suc, Option};
+ghost use Rattle.std.specs.Prelude.{◌≡◌, ◌<◌, ◌≤◌, ◌+◌, ◌*◌, ◌%◌, ◌∷◌, [], suc, Option};
 ghost use Rattle.pb_engine.specs.View.{EngineView};
 ghost use Rattle.pb_object.specs.Standing.{newest_of};
 ghost use Rattle.pb_core.specs.Client.{row_word as word_of_row};

@@ -1,6 +1,5 @@
 //! Judging a request by what is kept of its client.
 ghost use Rattle.std.specs.Prelude.{◌≡◌, ◌<◌, ◌≤◌};
-ghost use Rattle.pb_object.specs.Standing.{newest};
 ghost use Rattle.pb_shared.specs.Kept.{again_on, again_by, is_same_op};
 
 use crate::answers::Again;

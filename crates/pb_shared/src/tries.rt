@@ -1,5 +1,5 @@
 //! A try of a client whose request is announced.
-ghost use Rattle.std.specs.Prelude.{◌≡◌, ◌≢◌, ◌<◌, ◌≤◌, ◌%◌, ◌∷◌, [], ◌++◌};
+ghost use Rattle.std.specs.Prelude.{◌≡◌, ◌≢◌, ◌<◌, ◌≤◌, ◌%◌, ◌∷◌, []};
 ghost use Rattle.pb_core.specs.Client.{Looking, Taking};
 ghost use Rattle.pb_core.specs.Memory.{round_of_turn};
 ghost use Rattle.pb_rule.specs.Plays.{IsPlain, the_view};

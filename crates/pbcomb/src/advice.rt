@@ -19,25 +19,25 @@ pub fn advice(status: Status) -> &'static str {
             "pbcomb: memory ran out. No request was applied: run it again with more memory.",
         Status::Usage => COMMANDS,
         Status::Refused => {
-            "pbcomb: nothing was done. `line N`: line N of standard input, blank lines and comments counted, is no request of\n\
-            this kind, or its number isn't the next one of its client; or it is no event of a schedule, or one that can't\n\
-            happen then. `many`: the script has more\n\
-            than 32768 request lines, or the schedule more than 4096 event lines. `long`: it has more than 4194304 bytes."
+            "pbcomb: no request was applied. `line N`: line N of standard input, blank lines and comments counted, is no\n\
+            request of this kind, or its number isn't the next one of its client; or it is no event of a schedule, or one\n\
+            that can't happen then. `many`: the script has more than 32768 request lines, or the schedule more than 4096\n\
+            event lines. `long`: it has more than 4194304 bytes."
         }
         Status::ReadFault =>
-            "pbcomb: standard input couldn't be read. Nothing was done: run it again.",
+            "pbcomb: standard input couldn't be read. No request was applied: run it again.",
         Status::WriteFault => {
-            "pbcomb: standard output couldn't be written. Requests may be applied all the same: run the same script again\n\
-            and each is answered, and none is applied twice."
+            "pbcomb: standard output couldn't be written. Requests may be applied all the same: give the same script to `run`,\n\
+            and each is answered, and none is applied twice. What a drill left `report` prints; a report may be printed again."
         }
         Status::DeviceFault => {
-            "pbcomb: a call of the device failed. `doubt`: the request may be applied or not. Run the same script again, and\n\
-            each request is answered, and none is applied twice. `device fault` at once: the file can't be opened, read, made\n\
+            "pbcomb: a call of the device failed. `doubt`: the request may be applied or not. Give the same script to `run`,\n\
+            and each request is answered, and none is applied twice. `device fault` at once: the file can't be opened, read, made\n\
             or synced, or hasn't 131072 bytes. Of a drill the sums count what is known for sure."
         }
         Status::Unusable => {
-            "pbcomb: nothing was done. `none`: the device has no region; `fresh` makes one. `taken`: it has one; `run` goes on\n\
-            with it. `damaged L`: line L of its region isn't as the format wants it."
+            "pbcomb: no request was applied. `none`: the device has no region; `fresh` makes one. `taken`: it has one; `run`\n\
+            goes on with it, or says where it is damaged. `damaged L`: line L of its region isn't as the format wants it."
         }
         Status::Misnumbered => {
             "pbcomb: `gap`: the client left out a number; ask with the one after its last. `changed`: another operation was\n\

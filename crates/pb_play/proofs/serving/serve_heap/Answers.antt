@@ -1,4 +1,4 @@
-use Rattle.std.proofs.Common.{◌≡◌, ◌+◌, ◌*◌, List, length, ap, subst, sym, ◌∙◌, arith}
+use Rattle.std.proofs.Common.{◌≡◌, ◌+◌, ◌*◌, List, length, ap, subst, sym, arith}
 use Rattle.pb_pmem.specs.declared.line.Line.{Line}
 use Rattle.pb_object.specs.Object.{State}
 use Rattle.pb_object.specs.ObjectLines.{LinesRepresent}

@@ -1,5 +1,4 @@
-use Rattle.std.proofs.Common.{◌≡◌, ℕ, List, length, ap, sym, ◌∙◌, arith, subst}
-use Rattle.pb_object.specs.declared.request.Kept.{Kept}
+use Rattle.std.proofs.Common.{◌≡◌, length, ap, sym, ◌∙◌, subst}
 use Rattle.pb_engine.specs.View.{EngineView}
 use Rattle.pb_rule.specs.View.{fresh_views}
 use Rattle.pb_shared.specs.Passes.{lists_kept, passes_over}
