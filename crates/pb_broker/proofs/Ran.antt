@@ -90,7 +90,7 @@ nothing_run start none = record {
   rounds = [];
   calls = [];
   come = at_start start;
-  charged = record { asks = []; made_for = tt; next = tt; each_client = λ client. refl };
+  charged = record { asks = []; made_for = tt; entries = λ failed ops call. absurd (omega (arith, call.1)); next = tt; each_client = λ client. refl };
   made = λ round ops call. absurd (omega (arith, call.1));
   outcomes = nothing;
   settled = subst (λ (h : History). Outcomes start.standing h [] []) (sym (ap (settled_rounds []) none)) nothing;

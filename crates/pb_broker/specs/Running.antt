@@ -35,8 +35,8 @@ pub record Explains (history : History) (s : Standing) (asks : List Ask) (list :
 abbrev pub NoneInDoubt : List Outcome → Type 0
 NoneInDoubt list = count_by is_doubt list ≡ 0
 
--- how often the device failed: each line in doubt has a failing call of its own, and where a call failed some line is
--- in doubt; where none is the count stayed
+-- how often the device failed: its count rose by no less than lines are in doubt, or stands at its last value; and where
+-- a call failed some line is in doubt; where none is the count stayed
 pub record AreCounted (before after : ℕ) (list : List Outcome) : Type 0 where
   pub each : HasFaultForEach before after list
   pub calm : NoneInDoubt list → after ≡ before

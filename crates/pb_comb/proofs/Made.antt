@@ -33,7 +33,6 @@ use Rattle.pb_comb.proofs.Rounds.{IsRound, side_zero, no_queue, store_next, next
 use Rattle.pb_engine.proofs.InUse.{stored_in_use}
 use Rattle.pb_engine.proofs.Served.{state_from-none}
 use Rattle.pb_layout.specs.Record.{kept_in_slots}
-use Rattle.pb_layout_laws.proofs.NextRecord.{next_own}
 
 no_asks : List Ask
 no_asks = []
@@ -62,10 +61,11 @@ stored_comb kind old new state asks lines next is stored same = record {
 }
 
 -- the record is one of the side's next round
-next_is : (kind : Kind) (pair : PairView) (state : State) (asks : List Ask) (lines : List Line) → IsRound kind pair state asks lines → IsNextRecordOf (comb_view pair state []) (round_for pair state asks) lines
+next_is : (kind : Kind) (pair : PairView) (state : State) (asks : List Ask) (lines : List Line) → IsRound kind pair state asks lines → IsNextRecordOf (standing_of pair state) (round_for pair state asks) lines
 next_is kind pair state asks lines is = record {
-  long = is.next.long;
-  own = next_own (lines_of pair) (standing_of pair state) (round_for pair state asks) lines is.records is.next;
+  records = lines_of pair;
+  say = is.records;
+  next = is.next;
 }
 
 engine_ops : (kind : Kind) (pair : PairView) (state : State) (asks : List Ask) (lines : List Line) → IsRound kind pair state asks lines → round_ops (comb_view pair state []) (round_for pair state asks) lines ≡ stored_ops pair.head 0 (side_of pair 0) lines

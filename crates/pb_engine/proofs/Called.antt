@@ -5,14 +5,14 @@ use Rattle.pb_pmem.specs.declared.device.DeviceFault.{DeviceFault}
 use Rattle.pb_pmem.specs.declared.log.LogOp.{LogOp}
 use Rattle.pb_pmem.specs.Device.{Tale}
 use Rattle.pb_pmem.specs.Operations.{with_ops, IsFailedPrefix}
-use Rattle.pb_object.specs.History.{Round, History, IsLegalRound, state_after}
+use Rattle.pb_object.specs.History.{Round, History, state_after}
 use Rattle.pb_object.specs.Standing.{Standing}
 use Rattle.pb_layout.specs.RegionOps.{settle_to}
 use Rattle.pb_layout.specs.Represents.{header_for}
 use Rattle.pb_layout_laws.proofs.Histories.{state_after-append}
 use Rattle.pb_engine.specs.Calls.{EngineCall, Made, Failed, Settled, FailedSettling, Progress, progress_of, with_doubt, settled_rounds, after_call, after_calls, IsRoundOps, IsCutRoundOps, settling_ops, IsCall, AreCalls, ops_of, all_ops, failure_count, HasCalled}
 use Rattle.pb_engine.specs.Operations.{round_ops}
-use Rattle.pb_engine.specs.Outcomes.{HasMade, HasFailedToMake, HasSettled, HasFailedToSettle}
+use Rattle.pb_engine.specs.Outcomes.{IsNextRecordOf, HasMade, HasFailedToMake, HasSettled, HasFailedToSettle}
 use Rattle.pb_engine.specs.View.{FailedRound, EngineView, settled_standing}
 
 -- Calls after calls
@@ -74,14 +74,14 @@ module _ (start old new : EngineView) (rounds : History) (failures : ℕ) (calls
   pub round_called : (round : Round) → old.sure ≡ true → (made : HasMade round old new) → HasCalled start new (rounds ++ round ∷ []) failures (calls ++ Made round (round_ops old round made.lines) ∷ [])
   round_called round sure made =
       one_more start old new rounds (rounds ++ round ∷ []) failures failures calls (Made round (round_ops old round made.lines)) called
-      (sure, record { engine = old; standing = standing; lines = made.lines; record_is = made.record_is; ops_are = refl })
+      (sure, record { engine = old; standing = standing; lines = made.lines; record_is = subst (λ (t : Standing). IsNextRecordOf t round made.lines) standing made.record_is; ops_are = refl })
       (λ i. record { rounds = rounds ++ round ∷ []; sure = sym made.sure i; doubt = sym made.doubt i })
       (omega arith) made.device.told
 
-  pub failure_called : (round : Round) (fault : DeviceFault) → IsLegalRound old.standing round → old.sure ≡ true → (failed : HasFailedToMake round fault old new) → HasCalled start new rounds (failures + 1) (calls ++ Failed (record { round = round; called = failed.called }) failed.device.stops.ops ∷ [])
-  failure_called round fault legal sure failed =
+  pub failure_called : (round : Round) (fault : DeviceFault) → old.sure ≡ true → (failed : HasFailedToMake round fault old new) → HasCalled start new rounds (failures + 1) (calls ++ Failed (record { round = round; called = failed.called }) failed.device.stops.ops ∷ [])
+  failure_called round fault sure failed =
       one_more start old new rounds rounds failures (failures + 1) calls (Failed (record { round = round; called = failed.called }) failed.device.stops.ops) called
-      (sure, subst (λ (t : Standing). IsLegalRound t round) standing legal, record { engine = old; standing = standing; lines = failed.lines; record_is = failed.record_is; cut = failed.device.stops.cut })
+      (sure, record { engine = old; standing = standing; lines = failed.lines; record_is = subst (λ (t : Standing). IsNextRecordOf t round failed.lines) standing failed.record_is; cut = failed.device.stops.cut })
       (λ i. record { rounds = rounds; sure = sym failed.unsure.sure i; doubt = sym failed.doubt i })
       (omega arith) failed.device.stops.told
 
@@ -133,8 +133,7 @@ module _ (s : Standing) (rounds : History) where
 
   call_behind : (p : Progress) (call : EngineCall) → IsCall (state_after s rounds) p call → IsCall s (behind rounds p) call
   call_behind p (Made round ops) is = (is.0, subst (λ (t : Standing). IsRoundOps t round ops) (state_behind p.rounds) is.1)
-  call_behind p (Failed failed ops) is =
-      (is.0, subst (λ (t : Standing). IsLegalRound t failed.round) (state_behind p.rounds) is.1, subst (λ (t : Standing). IsCutRoundOps t failed ops) (state_behind p.rounds) is.2)
+  call_behind p (Failed failed ops) is = (is.0, subst (λ (t : Standing). IsCutRoundOps t failed ops) (state_behind p.rounds) is.1)
   call_behind p (Settled ops) is = (is.0, is.1 ∙ settling_behind p)
   call_behind p (FailedSettling ops) is = (is.0, subst (λ (all : List LogOp). IsFailedPrefix all ops) (settling_behind p) is.1)
 

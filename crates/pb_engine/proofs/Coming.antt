@@ -141,16 +141,16 @@ stays_known old new round made known side below = go side (subst (λ (k : Kind).
     go zero inside none = first round.side (known 0 inside) (ap (λ (k : KnownRecords). k.in_use) (sym made.first) ∙ none)
     go (suc side) inside none = second round.side (λ one. known (suc side) inside one) (ap (λ (k : KnownRecords). k.in_use) (sym made.second) ∙ none)
 
-made_held : (old new : EngineView) (round : Round) → IsLegalRound old.standing round → HasMade round old new → IsHeld old → IsHeld new
-made_held old new round legal made held = record {
-  stands = made.holds (held.in_use round.side (next_side old.standing round legal)) held.stands;
+made_held : (old new : EngineView) (round : Round) → HasMade round old new → IsHeld old → IsHeld new
+made_held old new round made held = record {
+  stands = made.holds (held.in_use round.side (next_side old.standing round made.record_is.next.legal)) held.stands;
   in_use = made.in_use held.in_use;
 }
 
-pub after_round_made : (start old new : EngineView) (rounds : History) (failures : ℕ) (calls : List EngineCall) (round : Round) → HasCome start old rounds failures calls → IsLegalRound old.standing round → old.sure ≡ true → old.doubt ≡ None → (made : HasMade round old new) → RoundCovers round old new
+pub after_round_made : (start old new : EngineView) (rounds : History) (failures : ℕ) (calls : List EngineCall) (round : Round) → HasCome start old rounds failures calls → old.sure ≡ true → old.doubt ≡ None → (made : HasMade round old new) → RoundCovers round old new
     → HasCome start new (rounds ++ round ∷ []) failures (calls ++ Made round (round_ops old round made.lines) ∷ [])
-after_round_made start old new rounds failures calls round come legal sure none made covers = record {
-  legal = legal-push start.standing rounds round come.legal (subst (λ (t : Standing). IsLegalRound t round) come.standing legal);
+after_round_made start old new rounds failures calls round come sure none made covers = record {
+  legal = legal-push start.standing rounds round come.legal (subst (λ (t : Standing). IsLegalRound t round) come.standing made.record_is.next.legal);
   standing = made.standing ∙ (ap (λ (t : Standing). after_round t round) come.standing ∙ sym (state_after-append start.standing rounds (round ∷ [])));
   count = omega (arith, come.count, made.device.faults);
   calm = λ calm. made.device.faults ∙ come.calm calm;
@@ -163,7 +163,7 @@ after_round_made start old new rounds failures calls round come legal sure none 
         sure = λ _. made.sure;
         doubt = λ _. made.doubt;
         known = λ first known. stays_known old new round made (before.known first known);
-        holds = λ first held. made_held old new round legal made (before.holds first held);
+        holds = λ first held. made_held old new round made (before.holds first held);
       };
   covered = λ tale members begins. record {
     decided = λ uncalled.
@@ -229,16 +229,16 @@ sealed_still tale old new s rounds after standing exit =
 same_doubt : (new : EngineView) (failed other : FailedRound) → new.doubt ≡ Some failed → new.doubt ≡ Some other → failed ≡ other
 same_doubt new failed other one two = cc (one, two)
 
-pub after_round_failed : (start old new : EngineView) (rounds : History) (failures : ℕ) (calls : List EngineCall) (round : Round) (fault : DeviceFault) → HasCome start old rounds failures calls → IsLegalRound old.standing round → old.sure ≡ true → old.doubt ≡ None → (failed : HasFailedToMake round fault old new) → FailedRoundCovers round old new
+pub after_round_failed : (start old new : EngineView) (rounds : History) (failures : ℕ) (calls : List EngineCall) (round : Round) (fault : DeviceFault) → HasCome start old rounds failures calls → old.sure ≡ true → old.doubt ≡ None → (failed : HasFailedToMake round fault old new) → FailedRoundCovers round old new
     → HasCome start new rounds (failures + 1) (calls ++ Failed (record { round = round; called = failed.called }) failed.device.stops.ops ∷ [])
-after_round_failed start old new rounds failures calls round fault come legal sure none failed covers = record {
+after_round_failed start old new rounds failures calls round fault come sure none failed covers = record {
   legal = come.legal;
   standing = failed.standing ∙ come.standing;
   count = most_then start.device.faults old.device.faults new.device.faults come.count failed.device.stops.rose;
   calm = λ calm. absurd (omega (arith, calm));
   rose = λ some. rose;
   each = one_failed start.device.faults old.device.faults new.device.faults failures come.each failed.device.stops.rose;
-  called = failure_called start old new rounds failures calls come.called come.standing round fault legal sure failed;
+  called = failure_called start old new rounds failures calls come.called come.standing round fault sure failed;
   quiet = λ calm. absurd (omega (arith, calm));
   covered = λ tale members begins.
       let after = sealed_so_far tale members start old rounds failures calls come sure none begins in

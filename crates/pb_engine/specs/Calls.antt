@@ -5,7 +5,7 @@ use Rattle.pb_pmem.specs.declared.log.LogOp.{LogOp}
 use Rattle.pb_pmem.specs.Operations.{with_ops, IsFailedPrefix}
 use Rattle.pb_object.specs.declared.request.Ask.{Ask}
 use Rattle.pb_object.specs.declared.request.Reply.{Reply}
-use Rattle.pb_object.specs.History.{Round, History, IsLegalRound, state_after}
+use Rattle.pb_object.specs.History.{Round, History, state_after}
 use Rattle.pb_object.specs.Standing.{Standing}
 use Rattle.pb_layout.specs.RegionOps.{settle_to}
 use Rattle.pb_layout.specs.Represents.{header_for}
@@ -49,12 +49,12 @@ abbrev pub after_calls : Progress → List EngineCall → Progress
 after_calls p [] = p
 after_calls p (call ∷ calls) = after_calls (after_call p call) calls
 
--- the operations of a round on a standing: those for some record that carries its side's next round number
+-- the operations of a round on a standing: those of some record that it makes, by what an engine knows of the spare one
 pub record IsRoundOps (s : Standing) (round : Round) (ops : List LogOp) : Type 0 where
   pub engine : EngineView
   pub standing : engine.standing ≡ s
   pub lines : List Line
-  pub record_is : IsNextRecordOf engine round lines
+  pub record_is : IsNextRecordOf s round lines
   pub ops_are : ops ≡ round_ops engine round lines
 
 -- .. or the first of them, up to a call of the device that failed
@@ -62,17 +62,17 @@ pub record IsCutRoundOps (s : Standing) (failed : FailedRound) (ops : List LogOp
   pub engine : EngineView
   pub standing : engine.standing ≡ s
   pub lines : List Line
-  pub record_is : IsNextRecordOf engine failed.round lines
+  pub record_is : IsNextRecordOf s failed.round lines
   pub cut : IsFailedRoundOps engine failed.round lines failed.called ops
 
 -- the operations that settle the region where calls have come so far
 abbrev pub settling_ops : Standing → Progress → List LogOp
 settling_ops s p = settle_to (header_for (state_after s (settled_rounds p.rounds p.doubt))) (state_after s (settled_rounds p.rounds p.doubt))
 
--- a round is asked of an engine that is sure, a legal one also where it fails, and settling of one that isn't
+-- a legal round is asked of an engine that is sure, and settling of one that isn't
 abbrev pub IsCall : Standing → Progress → EngineCall → Type 0
 IsCall s p (Made round ops) = (p.sure ≡ true) × IsRoundOps (state_after s p.rounds) round ops
-IsCall s p (Failed failed ops) = (p.sure ≡ true) × IsLegalRound (state_after s p.rounds) failed.round × IsCutRoundOps (state_after s p.rounds) failed ops
+IsCall s p (Failed failed ops) = (p.sure ≡ true) × IsCutRoundOps (state_after s p.rounds) failed ops
 IsCall s p (Settled ops) = (p.sure ≡ false) × (ops ≡ settling_ops s p)
 IsCall s p (FailedSettling ops) = (p.sure ≡ false) × IsFailedPrefix (settling_ops s p) ops
 
@@ -104,7 +104,7 @@ pub record HasRequest (round : Round) (ask : Ask) : Type 0 where
   pub reply : Reply
   pub entry : Contains round.entries (record { client = ask.client; number = ask.number; op = ask.op; reply = reply })
 
--- each call that failed was made for one of these requests, in their order; a round that failed has its request
+-- the calls that failed are as many as these requests, in their order, and a round that failed has the request of its place
 abbrev pub AreMadeFor : List EngineCall → List Ask → Type 0
 AreMadeFor [] [] = Unit {0}
 AreMadeFor [] (ask ∷ asks) = ⊥
@@ -115,8 +115,8 @@ AreMadeFor (Settled ops ∷ calls) asks = AreMadeFor calls asks
 AreMadeFor (FailedSettling ops ∷ calls) [] = ⊥
 AreMadeFor (FailedSettling ops ∷ calls) (ask ∷ asks) = AreMadeFor calls asks
 
--- From the start an engine has come to what it is by these calls alone: they recorded these rounds, and so many of them failed. Where none
--- was made it is as it was
+-- From the start an engine has come to what it is by these calls alone: they recorded these rounds, and so many of them failed. Where there
+-- was no call it is as it was
 pub record HasCalled (start now : EngineView) (rounds : History) (failures : ℕ) (calls : List EngineCall) : Type 0 where
   pub are : AreCalls start.standing (progress_of [] start) calls
   pub come : after_calls (progress_of [] start) calls ≡ progress_of rounds now

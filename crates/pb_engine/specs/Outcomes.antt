@@ -1,16 +1,15 @@
 -- What a round and a settling come to.
-use Rattle.std.specs.Prelude.{◌≡◌, ℕ, zero, suc, Bool, true, false, List, Some, None, length, ◌+◌}
+use Rattle.std.specs.Prelude.{◌≡◌, ℕ, zero, suc, Bool, true, false, List, Some, None}
 use Rattle.pb_pmem.specs.declared.device.DeviceFault.{DeviceFault}
 use Rattle.pb_pmem.specs.declared.line.Line.{Line}
 use Rattle.pb_pmem.specs.Operations.{Does, StopsBy, IsFailedPrefix}
 use Rattle.pb_object.specs.History.{Round, after_round}
+use Rattle.pb_object.specs.Standing.{Standing}
+use Rattle.pb_layout.specs.NextRecord.{IsNextOf}
 use Rattle.pb_layout.specs.RegionOps.{settle_to}
-use Rattle.pb_layout.specs.Represents.{header_for}
+use Rattle.pb_layout.specs.Represents.{header_for, AreRecords}
 use Rattle.pb_engine.specs.Operations.{round_ops, IsFailedRoundOps}
 use Rattle.pb_engine.specs.View.{KnownRecords, EngineView, nothing_known, settled_standing, DeviceRepresents, IsInUse, AreInUse}
-use Rattle.pb_layout.specs.Header.{record_length}
-use Rattle.pb_layout.specs.Record.{IsRecord}
-use Rattle.pb_object.specs.Standing.{rounds_of}
 
 -- a side's records after a round whose record is these lines: they are in use, and what was in use is spare
 abbrev pub stored_over : KnownRecords → List Line → KnownRecords
@@ -24,10 +23,11 @@ abbrev pub stored_on_second : EngineView → ℕ → List Line → KnownRecords
 stored_on_second engine zero lines = engine.second
 stored_on_second engine (suc side) lines = stored_over engine.second lines
 
--- these lines are a whole record of the round's side, which carries its next round number
-pub record IsNextRecordOf (engine : EngineView) (round : Round) (lines : List Line) : Type 0 where
-  pub long : length lines ≡ record_length (header_for engine.standing)
-  pub own : IsRecord (header_for engine.standing) round.side (rounds_of engine.standing round.side + 1) lines
+-- these lines are what a legal round makes of its side's record, where the records in use are some that say the standing
+pub record IsNextRecordOf (s : Standing) (round : Round) (lines : List Line) : Type 0 where
+  pub records : ℕ → List Line
+  pub say : AreRecords records s
+  pub next : IsNextOf records s round lines
 
 -- a round was made: the standing is the one after it, the engine is sure, and the device did the round's operations. Where its lines
 -- represented the standing, they do so again, and its records in use are again those in memory
@@ -36,7 +36,7 @@ pub record HasMade (round : Round) (old new : EngineView) : Type 0 where
   pub sure : new.sure ≡ true
   pub doubt : new.doubt ≡ None
   pub lines : List Line
-  pub record_is : IsNextRecordOf old round lines
+  pub record_is : IsNextRecordOf old.standing round lines
   pub device : Does (round_ops old round lines) old.device new.device
   pub first : new.first ≡ stored_on_first old round.side lines
   pub second : new.second ≡ stored_on_second old round.side lines
@@ -56,7 +56,7 @@ pub record HasFailedToMake (round : Round) (fault : DeviceFault) (old new : Engi
   pub doubt : new.doubt ≡ Some (record { round = round; called = called })
   pub unsure : IsUnsure new
   pub lines : List Line
-  pub record_is : IsNextRecordOf old round lines
+  pub record_is : IsNextRecordOf old.standing round lines
   pub device : StopsBy (IsFailedRoundOps old round lines called) fault old.device new.device
 
 -- the region was settled: with the round in doubt where its index word was called, and without it else

@@ -40,7 +40,6 @@ pub fn beginning()
 pub fn after_a_round()
     ensures { (start old new : EngineView) (rounds : History) (failures : ℕ) (calls : List EngineCall) (round : Round)
         → HasCome start old rounds failures calls
-        → IsLegalRound old.standing round
         → old.sure ≡ true
         → old.doubt ≡ None
         → (made : HasMade round old new)
@@ -48,11 +47,10 @@ pub fn after_a_round()
         → HasCome start new (rounds ++ round ∷ []) failures (calls ++ Made round (round_ops old round made.lines) ∷ []) }
 {}
 
-/// A legal one that failed is in doubt.
+/// One that failed is in doubt.
 pub fn after_a_failed_round()
     ensures { (start old new : EngineView) (rounds : History) (failures : ℕ) (calls : List EngineCall) (round : Round) (fault : DeviceFault)
         → HasCome start old rounds failures calls
-        → IsLegalRound old.standing round
         → old.sure ≡ true
         → old.doubt ≡ None
         → (failed : HasFailedToMake round fault old new)

@@ -55,7 +55,6 @@ use Rattle.pb_queue.proofs.InUse.{in_engine, of_engine, put_in_use}
 use Rattle.pb_queue.proofs.Prepared.{rounds_are}
 use Rattle.pb_queue.proofs.Rounds.{round_for, IsRound, IsStep, side_here, after_is, store_next, are_free, next_in, held_is, have_cells, HasMoved, standing_moved, records_moved}
 use Rattle.pb_queue.proofs.Standings.{head_is, pair_of}
-use Rattle.pb_layout_laws.proofs.NextRecord.{next_own}
 
 -- a round of which the cells were put, and the pair with these cells
 pub record IsCelled (pair between : PairView) (before after : Waiting) (asks : List Ask) (lines : List Line) : Type 0 where
@@ -322,10 +321,11 @@ celled pair between before after asks lines image is stands = record {
     }
 
 -- the record is one of its side's next round
-next_is : (pair : PairView) (old : ItemsView) (after : Waiting) (asks : List Ask) (lines : List Line) → IsRound pair old.sure after asks lines → IsNextRecordOf (twin_view pair old []) (round_for pair old.sure asks) lines
+next_is : (pair : PairView) (old : ItemsView) (after : Waiting) (asks : List Ask) (lines : List Line) → IsRound pair old.sure after asks lines → IsNextRecordOf (standing_of pair old.sure) (round_for pair old.sure asks) lines
 next_is pair old after asks lines is = record {
-  long = is.next.long;
-  own = next_own (lines_of pair) (standing_of pair old.sure) (round_for pair old.sure asks) lines is.records is.next;
+  records = lines_of pair;
+  say = is.records;
+  next = is.next;
 }
 
 pub made : (pair between new : PairView) (old items : ItemsView) (after : Waiting) (asks : List Ask) (lines : List Line) → IsCelled pair between old.sure after asks lines → HasConfirmed after old items → IsStored (side_asked asks) lines between new → HasMade (round_for pair old.sure asks) (twin_view pair old []) (twin_view new items [])

@@ -8,7 +8,7 @@ use Rattle.pb_object.specs.declared.request.Ask.{Ask}
 use Rattle.pb_object.specs.Request.{IsOperation}
 use Rattle.pb_object.specs.Standing.{newest}
 use Rattle.pb_core.specs.declared.event.Stepped.TheVariants.{Went}
-use Rattle.pb_core.specs.Client.{Stage, Idle, Storing, Looking, Client, is_holding, ask_word}
+use Rattle.pb_core.specs.Client.{Stage, Idle, Storing, Looking, Client, is_idle, is_holding, ask_word}
 use Rattle.pb_core.specs.Memory.{Memory, with_at, with_client}
 use Rattle.pb_core.specs.MemoryRun.{asked as asked_move, stepped}
 use Rattle.pb_core.specs.WordMoves.{go_to, asks, steps_to, with_request_word, storing, announcing}
@@ -19,6 +19,7 @@ use Rattle.pb_rule.specs.View.{PassView}
 use Rattle.pb_rule.specs.Plays.{Seated, the_view, IsPlain, with_view, asked, stored, announced, next_stored}
 use Rattle.pb_rule.specs.Rule.{request_place, HasWords, IsViewOf, HasRun, Keeps}
 use Rattle.pb_rule.proofs.Known.{start_kind}
+use Rattle.pb_rule.proofs.MadeRounds.{begins_asking, stays_open}
 use Rattle.pb_rule.proofs.Movers.{own_view, running, client_moves}
 use Rattle.pb_rule.proofs.Runs.{moved_on}
 use Rattle.pb_rule.proofs.Waits.{stands, step_of}
@@ -64,7 +65,7 @@ module _ {X : Type 0} (seen : X → EngineView) (kind : Kind) (start : EngineVie
     client_moves seen kind start r id v (asking ask v.body) v.notes (asking ask (r.m.book v.client)) (with_request_word v.client 1 ask.op.code r.m.requests) r.m.answers (set s.words word ask.op.code) here
         (subst (λ (c : ℕ). HasRun start (record (with_client c (asking ask (r.m.book c)) r.m) { requests = with_request_word c 1 ask.op.code r.m.requests })) next.client run)
         (subst (λ (p : ℕ). HasWords (record r.m { requests = with_request_word v.client 1 ask.op.code r.m.requests }) (set s.words p ask.op.code)) (sym (place ∙ ap (λ (c : ℕ). request_place c 1) next.client)) (request_stored v.client 1 ask.op.code own.there (omega arith) r.words))
-        (ap (asking ask) own.body) (ap is_holding stage) refl tt (λ entry mine. mine),
+        (ap (asking ask) own.body) (ap is_holding stage) refl tt (begins_asking _ _ (ap (λ (b : Client). is_idle b.stage) (sym own.body) ∙ ap is_idle stage) refl),
     refl,
   )
     where
@@ -106,7 +107,7 @@ module _ {X : Type 0} (seen : X → EngineView) (kind : Kind) (start : EngineVie
     tt,
     subst (λ (t : Stage). Rule (record { words = set s.words word value; homes = s.homes; views = set s.views id (record v { body = go_to t v.body } ∷ []) })) (sym (ap next_stored stage))
         (client_moves seen kind start r id v (go_to (Storing (suc place)) v.body) v.notes (go_to (Storing (suc place)) (r.m.book v.client)) (with_request_word v.client (suc place) value r.m.requests) r.m.answers (set s.words word value) here run words
-        (ap (go_to (Storing (suc place))) own.body) (ap is_holding stage) refl tt (λ entry mine. mine)),
+        (ap (go_to (Storing (suc place))) own.body) (ap is_holding stage) refl tt (stays_open _ _ refl refl refl)),
     refl,
   )
     where
@@ -139,7 +140,7 @@ module _ {X : Type 0} (seen : X → EngineView) (kind : Kind) (start : EngineVie
     keeps,
     tt,
     client_moves seen kind start r id v (go_to Looking v.body) v.notes (go_to Looking (r.m.book v.client)) (with_request_word v.client 0 number r.m.requests) r.m.answers (set s.words word number) here run words
-        (ap (go_to Looking) own.body) (ap is_holding stage) refl tt (λ entry mine. mine),
+        (ap (go_to Looking) own.body) (ap is_holding stage) refl tt (stays_open _ _ refl refl refl),
     refl,
   )
     where

@@ -1,23 +1,23 @@
 -- What is left once one seat has all views.
-use Rattle.std.proofs.Common.{length, ◌≡◌, ◌⊎◌, ℕ, ◌<◌, ◌≤◌, true, false, List, [], ◌∷◌, ◌++◌, Contains, Option, Some, None, IfSome, sym, refl, ap, ◌∙◌, subst, inl, inr, arith}
+use Rattle.std.proofs.Common.{length, ◌≡◌, ◌⊎◌, ℕ, ◌<◌, ◌≤◌, true, false, List, [], ◌∷◌, ◌++◌, Option, Some, None, IfSome, sym, refl, ap, ◌∙◌, subst, inl, inr, arith}
 use Rattle.std.proofs.lemmas.Bool.{false≢true}
 use mathlib.Core.Option as maybe
 use mathlib.Core.Option.{some, some-injective}
 use lib.ListN.{get_elem?}
 use Rattle.atomic_table.specs.Table.{State, Seen, Final}
 use Rattle.pb_object.specs.declared.kind.Kind.{Kind}
-use Rattle.pb_object.specs.History.{Round, History, state_after, IsLegal, IsLegalRound}
+use Rattle.pb_object.specs.History.{Entry, Round, History, state_after, IsLegal, IsLegalRound}
 use Rattle.pb_object.specs.Standing.{Standing, kept_list_of}
 use Rattle.pb_core.specs.Client.{Client, is_holding}
 use Rattle.pb_core.specs.Memory.{Owner, Free, Held, Closed, Engine, Resting, Doubtful, clients_of, shown, Work}
-use Rattle.pb_core.specs.MemoryParts.{own_entries, IsClient, IsMemory, HasEntries, AreDated}
+use Rattle.pb_core.specs.MemoryParts.{IsClient, IsMemory, HasEntries, AreDated}
 use Rattle.pb_core.proofs.Turns.{free_suits}
 use Rattle.pb_engine.specs.Calls.{progress_of, AreMadeFor}
 use Rattle.pb_engine.specs.View.{EngineView}
 use Rattle.pb_engine.specs.Good.{HasCome}
-use Rattle.pb_rule.specs.Opening.{IsThere, AreFree, AreEnded, HasAnsweredOne, HasEnded}
+use Rattle.pb_rule.specs.Opening.{IsThere, AreFree, AreEnded, OneOf, HasEnded}
 use Rattle.pb_rule.specs.View.{PassView}
-use Rattle.pb_rule.specs.Rule.{called_round, recorded_by, SuitsEngine, LiesAt, IsBelow, AreServed, Fault, AreApart, AreViews, Keeps, failed_calls, asked_by, failed_asks, AreNextAtSettling, HasAnsweredClient, IsUnpublished, AreOfClients}
+use Rattle.pb_rule.specs.Rule.{called_round, recorded_by, SuitsEngine, LiesAt, IsBelow, AreServed, Fault, AreApart, AreViews, Keeps, failed_calls, asked_by, failed_asks, AreNextAtSettling, HasAnswered, HasAnsweredOne, IsUnpublished, HasAskedFor, IsAskedFor, AreOfClients}
 use Rattle.pb_rule.proofs.Known.{started}
 use Rattle.pb_rule.proofs.MadeRounds.{not_resting, not_doubtful, none_unpublished}
 use Rattle.pb_rule.proofs.Movers.{is_memory}
@@ -58,16 +58,13 @@ module _ {X : Type 0} (seen : X → EngineView) (kind : Kind) (start : EngineVie
       shown_is : shown r.m ≡ state_after start.standing r.m.published
       shown_is = λ i. state_after ((started r.run).0 i) ((started r.run).1 i ++ r.m.published)
 
-  -- the maker of a round was answered
-  answered_to : {s : State (Option X) (List PassView)} (r : Rule s) (round : Round) (maker : HasAnsweredClient (clients_of r.m) r.m.book round) (seat : ℕ) (views : List PassView) → AreViews r.m r.engine r.faults r.place seat views → IsThere maker.client views → HasAnsweredOne round views
-  answered_to r round maker seat [] are there = absurd there
-  answered_to r round maker seat (v ∷ views) are (inl here) = inl (record {
-    entry = maker.entry;
-    one = maker.one;
-    own = subst (λ (b : Client). Contains (own_entries b) maker.entry) (ap r.m.book (sym here) ∙ sym are.0.body) maker.own;
-  })
-  answered_to r round maker seat (v ∷ views) are (inr later) =
-      inr (answered_to r round maker seat views are.4 later)
+  -- what holds of a client holds of its pass
+  by_pass : {s : State (Option X) (List PassView)} (r : Rule s) (so : Client → Type 0) (client : ℕ) → so (r.m.book client) → (seat : ℕ) (views : List PassView) → AreViews r.m r.engine r.faults r.place seat views → IsThere client views → OneOf so views
+  by_pass r so client has seat [] are there = absurd there
+  by_pass r so client has seat (v ∷ views) are (inl here) =
+      inl (subst so (ap r.m.book (sym here) ∙ sym are.0.body) has)
+  by_pass r so client has seat (v ∷ views) are (inr later) =
+      inr (by_pass r so client has seat views are.4 later)
 
   -- nobody holds the turn, so the engine lies in its slot
   all_free : {s : State (Option X) (List PassView)} (r : Rule s) (owner : Owner) → r.m.owner ≡ owner → ((d : ℕ) → d < clients_of r.m → is_holding (r.m.book d).stage ≡ false) → r.m.owner ≡ Free
@@ -96,6 +93,7 @@ module _ {X : Type 0} (seen : X → EngineView) (kind : Kind) (start : EngineVie
       come = come (free_suits is nobody).1;
       failed = subst (λ (w : Work). AreMadeFor r.tied.calls (failed_asks w (asked_by r.m.owner r.m.book) r.faults)) (free_suits is nobody).0 r.tied.called_for.failed;
       next_at = subst (λ (w : Work). AreNextAtSettling start.standing (progress_of [] start) r.tied.calls (failed_asks w (asked_by r.m.owner r.m.book) r.faults)) (free_suits is nobody).0 r.tied.called_for.next;
+      asked = λ failed ops call entry one. asked entry (r.tied.called_for.asked failed ops call entry one);
       made = λ round ops call. answered round (r.tied.called_for.made round ops call);
       clients = subst (λ (t : Standing). AreOfClients t.clients r.faults) (started r.run).0 r.clients;
       apart = apart_wider 0 r.faults r.m.noted r.engine.device.faults (omega (arith, is.low, r.tied.count)) r.apart;
@@ -124,9 +122,13 @@ module _ {X : Type 0} (seen : X → EngineView) (kind : Kind) (start : EngineVie
       lying : (value : X) × (seen value ≡ final.1.0.engine) × (final.0.homes ≡ some (Some value) ∷ [])
       lying = subst (λ (o : Owner). LiesAt seen o final.1.0.engine final.0.homes) nobody final.1.0.lies
 
+      asked : (entry : Entry) → IsAskedFor (clients_of final.1.0.m) final.1.0.m.book entry → OneOf (HasAskedFor entry) views
+      asked entry is_asked =
+          by_pass r (HasAskedFor entry) entry.client is_asked.asked seat views mine (there entry.client is_asked.there)
+
       -- no round waits to be published
-      answered : (round : Round) → HasAnsweredClient (clients_of final.1.0.m) final.1.0.m.book round ⊎ IsUnpublished final.1.0.m round → HasAnsweredOne round views
-      answered round (inl maker) = answered_to r round maker seat views mine (there maker.client maker.there)
+      answered : (round : Round) → HasAnsweredOne (clients_of final.1.0.m) final.1.0.m.book round ⊎ IsUnpublished final.1.0.m round → OneOf (HasAnswered round) views
+      answered round (inl maker) = by_pass r (HasAnswered round) maker.client maker.has seat views mine (there maker.client maker.there)
       answered round (inr unpublished) = absurd (quiet (free_suits is nobody).1)
         where
           quiet : ((final.1.0.m.engine ≡ Resting) × (final.1.0.m.ahead ≡ None)) ⊎ (final.1.0.m.engine ≡ Doubtful) → ⊥

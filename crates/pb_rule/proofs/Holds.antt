@@ -32,7 +32,7 @@ use Rattle.pb_rule.specs.Plays.{Seated, the_view, HoldsSlot, engine_before, engi
 use Rattle.pb_rule.specs.Ready.{Ready, IsReadyFor}
 use Rattle.pb_rule.specs.Rule.{request_place, row_place, HasWords, IsTied, LiesAt, IsOwn, IsViewOf, Fault, AreApart, met_if, met_by, HasRun, Keeps, failed_calls, fault_asks, asked_by, failed_asks, AreNextAtSettling, recorded_by, AreOfClients}
 use Rattle.pb_rule.proofs.Known.{tied_clients}
-use Rattle.pb_rule.proofs.MadeRounds.{makers_stay}
+use Rattle.pb_rule.proofs.MadeRounds.{goes_nowhere, makers_stay, asked_stay}
 use Rattle.pb_rule.proofs.Movers.{own_view, running, is_memory, keeps_rule, others_stay, held_lonely}
 use Rattle.pb_rule.proofs.Prepared.{called_to, IsPrepared, HasTurn, has_turn, prepares}
 use Rattle.pb_rule.proofs.Rounds.{may_be_served, seen_side}
@@ -115,7 +115,8 @@ module _ {X : Type 0} (seen : X → EngineView) (kind : Kind) (start : EngineVie
         called_for = record {
           failed = subst (AreMadeFor tied.calls) asked tied.called_for.failed;
           next = subst (AreNextAtSettling start.standing (progress_of [] start) tied.calls) asked tied.called_for.next;
-          made = makers_stay (called_to r.m ahead engine count from) new tied.calls refl (λ d entry mine. mine) (λ round unpublished. inr (record { recorded = unpublished.recorded; ahead = unpublished.ahead; own = unpublished.own })) tied.called_for.made;
+          asked = asked_stay (called_to r.m ahead engine count from) new tied.calls refl (λ d. goes_nowhere (r.m.book d)) tied.called_for.asked;
+          made = makers_stay (called_to r.m ahead engine count from) new tied.calls refl (λ d. goes_nowhere (r.m.book d)) (λ round unpublished. inr (record { recorded = unpublished.recorded; ahead = unpublished.ahead; own = unpublished.own })) tied.called_for.made;
         };
         sound = tied.sound;
       })

@@ -1,5 +1,5 @@
 -- The steps with which the holder lets the turn go: publishing, and giving up.
-use Rattle.std.proofs.Common.{◌≡◌, ℕ, suc, ◌+◌, ◌-◌, ◌*◌, eqb, Bool, true, false, List, [], ◌∷◌, ◌++◌, length, set, Contains, Option, Some, None, IsSome, sym, refl, ap, ◌∙◌, subst, inl, arith}
+use Rattle.std.proofs.Common.{◌≡◌, ◌⊎◌, ℕ, suc, ◌+◌, ◌-◌, ◌*◌, eqb, Bool, true, false, List, [], ◌∷◌, ◌++◌, length, set, Contains, Option, Some, None, IsSome, sym, refl, ap, ◌∙◌, subst, inl, arith}
 use Rattle.std.proofs.lemmas.Bool.{eqb-true, eqb-false, false≢true}
 use Rattle.std.proofs.lemmas.List.{append-nil}
 use mathlib.Core.Option as maybe
@@ -26,9 +26,9 @@ use Rattle.pb_rule.specs.View.{Note, Turn, Row, OwnRound, PassView}
 use Rattle.pb_rule.specs.Holding.{IsGivingUp}
 use Rattle.pb_rule.specs.Plays.{Seated, the_view, engine_before, engine_now, slot_seen, lets_go, own_round, published_body, published, publish_step, given_up}
 use Rattle.pb_rule.specs.Ready.{IsReadyFor, same_work}
-use Rattle.pb_rule.specs.Rule.{AreApart, HasWords, IsTied, LiesAt, IsBelow, SuitsEngine, recorded_by, HasFront, IsOwn, AreServed, IsViewOf, HasRun, Keeps, failed_calls, asked_by, failed_asks, AreNextAtSettling, IsUnpublished, AreAnsweredOrAhead, AreOfClients}
+use Rattle.pb_rule.specs.Rule.{AreApart, HasWords, IsTied, LiesAt, IsBelow, SuitsEngine, recorded_by, HasFront, IsOwn, AreServed, IsViewOf, HasRun, Keeps, failed_calls, asked_by, failed_asks, AreNextAtSettling, IsUnpublished, AreOfClients, HasAnsweredOne}
 use Rattle.pb_rule.proofs.Holds.{stands_holding}
-use Rattle.pb_rule.proofs.MadeRounds.{kept_request, answered_keeps, answered_adds, others_own, not_doubtful, none_unpublished, makers_stay}
+use Rattle.pb_rule.proofs.MadeRounds.{GoesOn, kept_request, answered_adds, stays_open, is_answered, others_go_on, not_doubtful, none_unpublished, makers_stay, asked_stay}
 use Rattle.pb_rule.proofs.Movers.{own_view, running, is_memory, keeps_rule, others_stay, held_lonely, served_more}
 use Rattle.pb_rule.proofs.Prepared.{HasTurn, has_turn}
 use Rattle.pb_rule.proofs.Runs.{moved_on}
@@ -158,8 +158,8 @@ module _ {X : Type 0} (seen : X → EngineView) (kind : Kind) (start : EngineVie
       after_round_of : (ℕ → Client) → List Entry → Memory
       after_round_of book answers = record (with_published (some_round r.m.ahead suits.1).0 r.m) { book = book; answers = answers }
 
-      tied : (book : ℕ → Client) (answers : List Entry) → AreAnsweredOrAhead (after_round_of book answers) r.tied.calls → IsTied kind start (after_round_of book answers) (engine_before me) r.faults
-      tied book answers makers = subst (λ (e : EngineView). IsTied kind start (after_round_of book answers) e r.faults) held.same (record {
+      tied : (book : ℕ → Client) (answers : List Entry) → ((d : ℕ) → GoesOn (r.m.book d) (book d)) → ((round : Round) → IsUnpublished r.m round → HasAnsweredOne (clients_of r.m) book round ⊎ IsUnpublished (after_round_of book answers) round) → IsTied kind start (after_round_of book answers) (engine_before me) r.faults
+      tied book answers on coming = subst (λ (e : EngineView). IsTied kind start (after_round_of book answers) e r.faults) held.same (record {
         standing = r.tied.standing ∙ (known_is ∙ sym (state_after-push r.m.start r.m.past r.m.published round));
         count = r.tied.count;
         suits = subst (λ (e : Engine). SuitsEngine e r.m.ahead r.engine) suits.0 r.tied.suits;
@@ -168,7 +168,8 @@ module _ {X : Type 0} (seen : X → EngineView) (kind : Kind) (start : EngineVie
         called_for = record {
           failed = subst (λ (w : Work). AreMadeFor r.tied.calls (failed_asks w (asked_by r.m.owner r.m.book) r.faults)) work r.tied.called_for.failed;
           next = subst (λ (w : Work). AreNextAtSettling start.standing (progress_of [] start) r.tied.calls (failed_asks w (asked_by r.m.owner r.m.book) r.faults)) work r.tied.called_for.next;
-          made = makers;
+          asked = asked_stay r.m (after_round_of book answers) r.tied.calls refl on r.tied.called_for.asked;
+          made = makers_stay r.m (after_round_of book answers) r.tied.calls refl on coming r.tied.called_for.made;
         };
         sound = r.tied.sound;
       })
@@ -237,16 +238,18 @@ module _ {X : Type 0} (seen : X → EngineView) (kind : Kind) (start : EngineVie
             });
           })))
           refl refl refl refl refl (words new refl refl refl refl refl)
-          (tied new.book new.answers (makers_stay r.m new r.tied.calls refl (others_own v.client (answered reply (suc (length r.m.published)) (r.m.book v.client)) r.m.book (answered_keeps reply (suc (length r.m.published)) (r.m.book v.client)))
+          (tied new.book new.answers (others_go_on v.client (answered reply (suc (length r.m.published)) (r.m.book v.client)) r.m.book (is_answered reply (suc (length r.m.published)) (r.m.book v.client)))
           (λ other unpublished. inl (record {
             client = v.client;
             there = own.there;
-            entry = entry_by (r.m.book v.client).ask (has_own other unpublished).reply;
-            one = (has_own other unpublished).entry;
-            own = subst (λ (b : Client). Contains (own_entries b) (entry_by (r.m.book v.client).ask (has_own other unpublished).reply)) (sym (with_at-same v.client (answered reply (suc (length r.m.published)) (r.m.book v.client)) r.m.book))
-                (subst (λ (one : Reply). Contains (own_entries (answered reply (suc (length r.m.published)) (r.m.book v.client))) (entry_by (r.m.book v.client).ask one)) (ap (λ (k : Kept). k.reply) (kept_own other unpublished))
-                (answered_adds reply (suc (length r.m.published)) (r.m.book v.client)));
-          })) r.tied.called_for.made))
+            has = record {
+              entry = entry_by (r.m.book v.client).ask (has_own other unpublished).reply;
+              one = (has_own other unpublished).entry;
+              own = subst (λ (b : Client). Contains (own_entries b) (entry_by (r.m.book v.client).ask (has_own other unpublished).reply)) (sym (with_at-same v.client (answered reply (suc (length r.m.published)) (r.m.book v.client)) r.m.book))
+                  (subst (λ (one : Reply). Contains (own_entries (answered reply (suc (length r.m.published)) (r.m.book v.client))) (entry_by (r.m.book v.client).ask one)) (ap (λ (k : Kept). k.reply) (kept_own other unpublished))
+                  (answered_adds reply (suc (length r.m.published)) (r.m.book v.client)));
+            };
+          })))
           (λ i. answered (kept_is i).reply (suc (held.holder.front i)) (own.body i)) refl tt all_served
       go false e =
           let new : Memory = with_client v.client (record (r.m.book v.client) { stage = Looking; front = suc (length r.m.published) }) (with_published round r.m) in
@@ -266,8 +269,8 @@ module _ {X : Type 0} (seen : X → EngineView) (kind : Kind) (start : EngineVie
             });
           })))
           refl refl refl refl refl (words new refl refl refl refl refl)
-          (tied new.book new.answers (makers_stay r.m new r.tied.calls refl (others_own v.client (record (r.m.book v.client) { stage = Looking; front = suc (length r.m.published) }) r.m.book (λ entry mine. mine))
-          (λ other unpublished. absurd (eqb-false _ _ e (ap (λ (k : Kept). k.number) (kept_is ∙ kept_own other unpublished) ∙ number_is))) r.tied.called_for.made))
+          (tied new.book new.answers (others_go_on v.client (record (r.m.book v.client) { stage = Looking; front = suc (length r.m.published) }) r.m.book (stays_open _ _ refl refl refl))
+          (λ other unpublished. absurd (eqb-false _ _ e (ap (λ (k : Kept). k.number) (kept_is ∙ kept_own other unpublished) ∙ number_is))))
           (λ i. record (own.body i) { stage = Looking; front = suc (held.holder.front i) }) refl tt all_served
 
   -- Giving up
@@ -325,7 +328,8 @@ module _ {X : Type 0} (seen : X → EngineView) (kind : Kind) (start : EngineVie
         called_for = record {
           failed = subst (λ (w : Work). AreMadeFor r.tied.calls (failed_asks w (asked_by r.m.owner r.m.book) r.faults)) work r.tied.called_for.failed;
           next = subst (λ (w : Work). AreNextAtSettling start.standing (progress_of [] start) r.tied.calls (failed_asks w (asked_by r.m.owner r.m.book) r.faults)) work r.tied.called_for.next;
-          made = makers_stay r.m new r.tied.calls refl (others_own (the_view me).client (go_to Looking (r.m.book (the_view me).client)) r.m.book (λ entry mine. mine)) (λ round unpublished. absurd (none_unpublished r.m Doubtful doubtful not_doubtful round unpublished)) r.tied.called_for.made;
+          asked = asked_stay r.m new r.tied.calls refl (others_go_on (the_view me).client (go_to Looking (r.m.book (the_view me).client)) r.m.book (stays_open _ _ refl refl refl)) r.tied.called_for.asked;
+          made = makers_stay r.m new r.tied.calls refl (others_go_on (the_view me).client (go_to Looking (r.m.book (the_view me).client)) r.m.book (stays_open _ _ refl refl refl)) (λ round unpublished. absurd (none_unpublished r.m Doubtful doubtful not_doubtful round unpublished)) r.tied.called_for.made;
         };
         sound = r.tied.sound;
       })

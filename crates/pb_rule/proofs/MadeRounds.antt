@@ -1,5 +1,5 @@
 -- What the engine was called for: requests, and the rounds that were made.
-use Rattle.std.proofs.Common.{◌≡◌, ◌≢◌, ◌⊎◌, ℕ, ◌+◌, ◌<◌, eqb, Bool, true, false, cond, List, [], ◌∷◌, ◌++◌, length, Option, Some, IfSome, sym, refl, ap, ◌∙◌, subst, inl, inr, arith, Contains}
+use Rattle.std.proofs.Common.{◌≡◌, ◌≢◌, ◌⊎◌, ℕ, ◌+◌, ◌<◌, eqb, Bool, true, false, cond, List, [], ◌∷◌, ◌++◌, length, map, Option, Some, IfSome, sym, refl, ap, ◌∙◌, subst, inl, inr, arith, Contains}
 use Rattle.std.proofs.lemmas.Bool.{eqb-true, eq-eqb, false≢true}
 use Rattle.std.proofs.lemmas.List.{append-nil, map-append}
 use Rattle.std.proofs.lemmas.List.Elements.{Contains-append_left, Contains-push, Contains-push_cases, All-contains}
@@ -10,7 +10,7 @@ use Rattle.pb_object.specs.declared.request.Reply.{Reply}
 use Rattle.pb_object.specs.History.{Entry, Round, after_entry, kept_by, after_round, state_after, IsLegalRound}
 use Rattle.pb_object.specs.Object.{reply_of}
 use Rattle.pb_object.specs.Standing.{Standing, kept_list_of, newest, newest_of}
-use Rattle.pb_core.specs.Client.{Holding, Client, is_idle, is_holding, entry_by}
+use Rattle.pb_core.specs.Client.{Stage, Idle, Storing, Looking, LoadsNumber, LoadsCode, LoadsValue, LoadsExtra, Confirming, Lacking, Taking, Holding, Client, Dated, is_idle, is_announced, is_holding, entry_by}
 use Rattle.pb_core.specs.HolderMoves.{entries_by}
 use Rattle.pb_core.specs.Memory.{Owner, Free, Held, Closed, Engine, Resting, Recorded, Doubtful, Memory, with_at, clients_of, shown}
 use Rattle.pb_core.specs.MemoryParts.{entries_with, entries_ahead, entry_of, own_entries, HasEntries, IsAsking, Meets, IsMemory}
@@ -22,8 +22,8 @@ use Rattle.pb_core.proofs.Turns.{the_holder}
 use Rattle.pb_engine.specs.Calls.{EngineCall, Made, Failed, Settled, FailedSettling, Progress, after_call, after_calls, HasRequest, AreMadeFor}
 use Rattle.pb_engine.specs.View.{FailedRound}
 use Rattle.pb_engine.proofs.Joining.{round_kept}
-use Rattle.pb_rule.specs.Rule.{asked_by, IsNextOn, AreNextAtSettling, HasAnsweredClient, IsUnpublished, AreAnsweredOrAhead}
-use Rattle.pb_rule.proofs.Members.{contains-here, of_all}
+use Rattle.pb_rule.specs.Rule.{asked_by, IsNextOn, AreNextAtSettling, HasAnsweredOne, IsUnpublished, AreAnsweredOrAhead, IsOpen, WasAnswered, HasAskedFor, IsAskedFor, AreAskedFor}
+use Rattle.pb_rule.proofs.Members.{contains-here, contains-none, contains-one, of_all, with_own, legal-below}
 
 -- The request that a client has open
 
@@ -98,13 +98,56 @@ pub answered_adds : (reply : Reply) (front : ℕ) (b : Client) → Contains (own
 answered_adds reply front b =
     subst (λ (es : List Entry). Contains es (entry_by b.ask reply)) (sym (own_push reply front b)) (Contains-push (own_entries b) (entry_by b.ask reply))
 
--- another client's are as they were
-pub others_own : (c : ℕ) (b : Client) (book : ℕ → Client) → ((entry : Entry) → Contains (own_entries (book c)) entry → Contains (own_entries b) entry) → (d : ℕ) (entry : Entry) → Contains (own_entries (book d)) entry → Contains (own_entries (with_at c b book d)) entry
-others_own c b book grows d entry own = go (eqb d c) refl
+-- A client's entries and requests, as it goes on
+
+-- it has the entries that it had, and has asked for what it had asked for
+pub record GoesOn (old new : Client) : Type 0 where
+  pub own : (entry : Entry) → Contains (own_entries old) entry → Contains (own_entries new) entry
+  pub asked : (entry : Entry) → HasAskedFor entry old → HasAskedFor entry new
+
+pub goes_nowhere : (b : Client) → GoesOn b b
+goes_nowhere b = record { own = λ entry own. own; asked = λ entry asked. asked }
+
+answered_still : (old new : Client) (entry : Entry) → ((one : Entry) → Contains (own_entries old) one → Contains (own_entries new) one) → WasAnswered entry old → WasAnswered entry new
+answered_still old new entry grows was = record { reply = was.reply; own = grows (record entry { reply = was.reply }) was.own }
+
+same_entries : (old new : Client) → new.mine ≡ old.mine → (entry : Entry) → Contains (own_entries old) entry → Contains (own_entries new) entry
+same_entries old new mine entry own = subst (λ (dated : List Dated). Contains (map entry_of dated) entry) (sym mine) own
+
+-- its request stays open
+pub stays_open : (old new : Client) → new.mine ≡ old.mine → new.ask ≡ old.ask → is_idle new.stage ≡ false → GoesOn old new
+stays_open old new mine ask asks = record { own = same_entries old new mine; asked = λ entry asked. go entry asked }
   where
-    go : (same : Bool) → eqb d c ≡ same → Contains (own_entries (cond same b (book d))) entry
-    go true is = grows entry (subst (λ (k : ℕ). Contains (own_entries (book k)) entry) (eqb-true d c is) own)
-    go false is = own
+    go : (entry : Entry) → HasAskedFor entry old → HasAskedFor entry new
+    go entry (inl is_open) = inl (record { asks = asks; same = is_open.same ∙ ap (λ (a : Ask). entry_by a entry.reply) (sym ask) })
+    go entry (inr was) = inr (answered_still old new entry (same_entries old new mine) was)
+
+-- it had none, and asks
+pub begins_asking : (old new : Client) → is_idle old.stage ≡ true → new.mine ≡ old.mine → GoesOn old new
+begins_asking old new idle mine = record { own = same_entries old new mine; asked = λ entry asked. go entry asked }
+  where
+    go : (entry : Entry) → HasAskedFor entry old → HasAskedFor entry new
+    go entry (inl is_open) = absurd (false≢true (sym is_open.asks ∙ idle))
+    go entry (inr was) = inr (answered_still old new entry (same_entries old new mine) was)
+
+-- it was answered
+pub is_answered : (reply : Reply) (front : ℕ) (b : Client) → GoesOn b (answered reply front b)
+is_answered reply front b = record { own = answered_keeps reply front b; asked = λ entry asked. go entry asked }
+  where
+    go : (entry : Entry) → HasAskedFor entry b → HasAskedFor entry (answered reply front b)
+    go entry (inl is_open) = inr (record {
+      reply = reply;
+      own = subst (Contains (own_entries (answered reply front b))) (sym (ap (λ (e : Entry). record e { reply = reply }) is_open.same)) (answered_adds reply front b);
+    })
+    go entry (inr was) = inr (answered_still b (answered reply front b) entry (answered_keeps reply front b) was)
+
+-- the others are as they were
+pub others_go_on : (c : ℕ) (b : Client) (book : ℕ → Client) → GoesOn (book c) b → (d : ℕ) → GoesOn (book d) (with_at c b book d)
+others_go_on c b book on d = go (eqb d c) refl
+  where
+    go : (same : Bool) → eqb d c ≡ same → GoesOn (book d) (cond same b (book d))
+    go true is = subst (λ (k : ℕ). GoesOn (book k) b) (sym (eqb-true d c is)) on
+    go false is = goes_nowhere (book d)
 
 -- Rounds that were made
 
@@ -119,26 +162,79 @@ pub none_unpublished : (m : Memory) (engine : Engine) → m.engine ≡ engine �
 none_unpublished m engine is other round unpublished = other (sym is ∙ unpublished.recorded)
 
 -- who was answered is so still
-pub makers_stay : (m new : Memory) (calls : List EngineCall) → clients_of new ≡ clients_of m → ((d : ℕ) (entry : Entry) → Contains (own_entries (m.book d)) entry → Contains (own_entries (new.book d)) entry)
-    → ((round : Round) → IsUnpublished m round → HasAnsweredClient (clients_of new) new.book round ⊎ IsUnpublished new round) → AreAnsweredOrAhead m calls → AreAnsweredOrAhead new calls
-makers_stay m new calls clients grows coming have round ops call = go (have round ops call)
+pub makers_stay : (m new : Memory) (calls : List EngineCall) → clients_of new ≡ clients_of m → ((d : ℕ) → GoesOn (m.book d) (new.book d))
+    → ((round : Round) → IsUnpublished m round → HasAnsweredOne (clients_of new) new.book round ⊎ IsUnpublished new round) → AreAnsweredOrAhead m calls → AreAnsweredOrAhead new calls
+makers_stay m new calls clients on coming have round ops call = go (have round ops call)
   where
-    go : HasAnsweredClient (clients_of m) m.book round ⊎ IsUnpublished m round → HasAnsweredClient (clients_of new) new.book round ⊎ IsUnpublished new round
+    go : HasAnsweredOne (clients_of m) m.book round ⊎ IsUnpublished m round → HasAnsweredOne (clients_of new) new.book round ⊎ IsUnpublished new round
     go (inl maker) = inl (record {
       client = maker.client;
       there = omega (arith, maker.there, clients);
-      entry = maker.entry;
-      one = maker.one;
-      own = grows maker.client maker.entry maker.own;
+      has = record { entry = maker.has.entry; one = maker.has.one; own = (on maker.client).own maker.has.entry maker.has.own };
     })
     go (inr unpublished) = coming round unpublished
 
 -- with a call more
-pub makers_more : (m : Memory) (calls : List EngineCall) (call : EngineCall) → ((round : Round) (ops : List LogOp) → call ≡ Made round ops → HasAnsweredClient (clients_of m) m.book round ⊎ IsUnpublished m round) → AreAnsweredOrAhead m calls → AreAnsweredOrAhead m (calls ++ call ∷ [])
+pub makers_more : (m : Memory) (calls : List EngineCall) (call : EngineCall) → ((round : Round) (ops : List LogOp) → call ≡ Made round ops → HasAnsweredOne (clients_of m) m.book round ⊎ IsUnpublished m round) → AreAnsweredOrAhead m calls → AreAnsweredOrAhead m (calls ++ call ∷ [])
 makers_more m calls call last have round ops is = elim (Contains-push_cases calls call (Made round ops) is) [
   | inl before ↦ have round ops before
   | inr same ↦ last round ops same
 ]
+
+-- Rounds that failed
+
+-- what was asked for is so still
+pub asked_stay : (m new : Memory) (calls : List EngineCall) → clients_of new ≡ clients_of m → ((d : ℕ) → GoesOn (m.book d) (new.book d)) → AreAskedFor m calls → AreAskedFor new calls
+asked_stay m new calls clients on have failed ops call entry one =
+    let asked : IsAskedFor (clients_of m) m.book entry = have failed ops call entry one in
+    record { there = omega (arith, asked.there, clients); asked = (on entry.client).asked entry asked.asked }
+
+-- with a call more
+pub asked_more : (m : Memory) (calls : List EngineCall) (call : EngineCall) → ((failed : FailedRound) (ops : List LogOp) → call ≡ Failed failed ops → (entry : Entry) → Contains failed.round.entries entry → IsAskedFor (clients_of m) m.book entry) → AreAskedFor m calls → AreAskedFor m (calls ++ call ∷ [])
+asked_more m calls call last have failed ops is = elim (Contains-push_cases calls call (Failed failed ops) is) [
+  | inl before ↦ have failed ops before
+  | inr same ↦ last failed ops same
+]
+
+-- a request that is announced is open
+announced_open : (stage : Stage) → is_announced stage ≡ true → is_idle stage ≡ false
+announced_open Idle announced = absurd (false≢true announced)
+announced_open (Storing count) announced = refl
+announced_open Looking announced = refl
+announced_open (LoadsNumber turn) announced = refl
+announced_open (LoadsCode turn) announced = refl
+announced_open (LoadsValue turn code) announced = refl
+announced_open (LoadsExtra turn code value) announced = refl
+announced_open (Confirming turn reply) announced = refl
+announced_open (Lacking turn found) announced = refl
+announced_open (Taking turn found) announced = refl
+announced_open Holding announced = refl
+
+-- each request of the round ahead is open
+pub ahead_asked : {m : Memory} (round : Round) → IsMemory m → m.ahead ≡ Some round → (entry : Entry) → Contains round.entries entry → IsAskedFor (clients_of m) m.book entry
+ahead_asked {m} round is ahead entry one = record { there = there; asked = inl (go (is.clients entry.client there).entries) }
+  where
+    shape : HasShape m.start (shown m)
+    shape = shape_after m.start (m.past ++ m.published)
+
+    legal : IsLegalRound (shown m) round
+    legal = subst (λ (a : Option Round). IfSome a (IsLegalRound (shown m))) ahead is.history.next
+
+    there : entry.client < m.start.clients
+    there = omega (arith, legal-below (shown m) round.side round.entries entry legal.legal one, shape.clients)
+
+    own : Contains (entries_ahead entry.client m.ahead) entry
+    own = subst (λ (a : Option Round). Contains (entries_ahead entry.client a) entry) (sym ahead) (with_own round.entries entry one)
+
+    go : HasEntries entry.client m.published m.ahead (kept_list_of (shown m) entry.client) (m.book entry.client) → IsOpen entry (m.book entry.client)
+    go (inl clear) = absurd (contains-none entry (subst (λ (es : List Entry). Contains es entry) clear.none own))
+    go (inr (inl coming)) =
+        let same : entry_by (m.book entry.client).ask coming.reply ≡ entry = contains-one (entry_by (m.book entry.client).ask coming.reply) entry (subst (λ (es : List Entry). Contains es entry) coming.one own) in
+        record {
+          asks = announced_open (m.book entry.client).stage coming.announced;
+          same = sym same ∙ ap (entry_by (m.book entry.client).ask) (ap (λ (e : Entry). e.reply) same);
+        }
+    go (inr (inr served)) = absurd (contains-none entry (subst (λ (es : List Entry). Contains es entry) served.none own))
 
 -- Settlings that failed
 

@@ -1,7 +1,9 @@
 -- Members of lists.
-use Rattle.std.proofs.Common.{◌≡◌, ◌⊎◌, ℕ, eqb, Bool, true, false, cond, List, [], ◌∷◌, subst, inl, inr, arith, Contains}
+use Rattle.std.proofs.Common.{◌≡◌, ◌⊎◌, ℕ, ◌<◌, eqb, eq-eqb, Bool, true, false, cond, List, [], ◌∷◌, refl, sym, ap, subst, ◌∙◌, inl, inr, arith, Contains}
+use Rattle.std.proofs.lemmas.Bool.{false≢true}
 use Rattle.std.proofs.lemmas.List.Elements.{Contains-append_left, Contains-append_right, Contains-push, Contains-push_cases, Contains-append_cases}
-use Rattle.pb_object.specs.History.{Entry}
+use Rattle.pb_object.specs.History.{Entry, after_entry, AreLegal}
+use Rattle.pb_object.specs.Standing.{Standing}
 use Rattle.pb_core.specs.MemoryParts.{entries_with}
 
 pub contains-here : {A : Type 0} (x : A) (xs : List A) → Contains (x ∷ xs) x
@@ -33,3 +35,25 @@ of_all c (first ∷ entries) entry is = go (of_all c entries entry) (eqb first.c
       | inr more ↦ contains-there first entry entries (rest more)
     ]
     go rest false more = contains-there first entry entries (rest more)
+
+-- and one of them is among its client's
+pub with_own : (entries : List Entry) (entry : Entry) → Contains entries entry → Contains (entries_with entry.client entries) entry
+with_own [] entry is = absurd (contains-none entry is)
+with_own (first ∷ entries) entry is = go (with_own entries entry) (eqb first.client entry.client) refl (contains-cases first entry entries is)
+  where
+    own : first ≡ entry → eqb first.client entry.client ≡ true
+    own same = eq-eqb first.client entry.client (ap (λ (e : Entry). e.client) same)
+
+    go : (Contains entries entry → Contains (entries_with entry.client entries) entry) → (b : Bool) → eqb first.client entry.client ≡ b → (first ≡ entry) ⊎ Contains entries entry → Contains (cond b (first ∷ entries_with entry.client entries) (entries_with entry.client entries)) entry
+    go rest true is_own (inl same) = subst (Contains (first ∷ entries_with entry.client entries)) same (contains-here first (entries_with entry.client entries))
+    go rest true is_own (inr more) = contains-there first entry (entries_with entry.client entries) (rest more)
+    go rest false other (inl same) = absurd (false≢true (sym other ∙ own same))
+    go rest false other (inr more) = rest more
+
+-- legal entries are of the standing's clients
+pub legal-below : (s : Standing) (side : ℕ) (entries : List Entry) (entry : Entry) → AreLegal s side entries → Contains entries entry → entry.client < s.clients
+legal-below s side [] entry legal is = absurd (contains-none entry is)
+legal-below s side (first ∷ entries) entry legal is = elim (contains-cases first entry entries is) [
+  | inl same ↦ subst (λ (e : Entry). e.client < s.clients) same legal.0.client
+  | inr more ↦ legal-below (after_entry s first) side entries entry legal.1 more
+]

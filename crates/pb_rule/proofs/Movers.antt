@@ -1,5 +1,5 @@
 -- What a step of one seat keeps of the rule.
-use Rattle.std.proofs.Common.{◌≡◌, ◌≢◌, ◌⊎◌, ℕ, ◌<◌, Bool, true, false, List, [], ◌∷◌, ◌++◌, get_or, set, Contains, Option, sym, refl, ap, ◌∙◌, subst, inl, inr, arith}
+use Rattle.std.proofs.Common.{◌≡◌, ◌≢◌, ◌⊎◌, ℕ, ◌<◌, Bool, true, false, List, [], ◌∷◌, ◌++◌, get_or, set, Option, sym, refl, ap, ◌∙◌, subst, inl, inr, arith}
 use Rattle.std.proofs.lemmas.Bool.{false≢true}
 use Rattle.std.proofs.lemmas.List.{set-get_or, append_assoc}
 use mathlib.Core.Option as maybe
@@ -13,7 +13,7 @@ use Rattle.pb_object.specs.History.{Entry, History}
 use Rattle.pb_object.specs.Standing.{Standing}
 use Rattle.pb_core.specs.Client.{Stage, Client, is_holding}
 use Rattle.pb_core.specs.Memory.{Owner, Free, Held, Closed, Memory, with_at, with_client, clients_of, side_of}
-use Rattle.pb_core.specs.MemoryParts.{own_entries, IsMemory}
+use Rattle.pb_core.specs.MemoryParts.{IsMemory}
 use Rattle.pb_core.specs.WordMoves.{IsRunning}
 use Rattle.pb_core.proofs.Basics.{with_at-same, with_at-other}
 use Rattle.pb_core.proofs.Turns.{held-client, free≢held}
@@ -21,7 +21,7 @@ use Rattle.pb_engine.specs.Calls.{progress_of, AreMadeFor, HasRequest}
 use Rattle.pb_engine.specs.View.{EngineView}
 use Rattle.pb_rule.specs.View.{Note, OwnRound, PassView}
 use Rattle.pb_rule.specs.Rule.{HasWords, IsTied, LiesAt, IsBelow, HasFront, AreServed, IsViewOf, Fault, AreApart, AreOfClients, met_by, AreViews, HasRun, Keeps, asked_by, failed_asks, AreNextAtSettling}
-use Rattle.pb_rule.proofs.MadeRounds.{asked_same, others_own, makers_stay}
+use Rattle.pb_rule.proofs.MadeRounds.{GoesOn, asked_same, others_go_on, makers_stay, asked_stay}
 use Rattle.pb_rule.proofs.Runs.{memory_of}
 use Rattle.pb_rule.proofs.WordLemmas.{words_of}
 
@@ -159,9 +159,9 @@ module _ {X : Type 0} (seen : X → EngineView) (kind : Kind) (start : EngineVie
   -- so its view moves with it: where it stands, and the words that it met
   pub client_moves : {s : St} (r : Rule s) (id : ℕ) (v : PassView) (body : Client) (notes : List Note) (b : Client) (requests : ℕ → ℕ → ℕ) (answers : List Entry) (words : List ℕ) → get_elem? s.views id ≡ some (v ∷ [])
       → HasRun start (record (with_client v.client b r.m) { requests = requests; answers = answers }) → HasWords (record r.m { requests = requests }) words → body ≡ b
-      → is_holding v.body.stage ≡ false → is_holding body.stage ≡ false → HasFront body.stage body.front → ((entry : Entry) → Contains (own_entries (r.m.book v.client)) entry → Contains (own_entries b) entry)
+      → is_holding v.body.stage ≡ false → is_holding body.stage ≡ false → HasFront body.stage body.front → GoesOn (r.m.book v.client) b
       → Rule (record { words = words; homes = s.homes; views = set s.views id (record v { body = body; notes = notes } ∷ []) })
-  client_moves {s} r id v body notes b requests answers words at run has is before free front grows =
+  client_moves {s} r id v body notes b requests answers words at run has is before free front on =
       keeps_rule r id v w new r.engine r.faults words s.homes at run
       (words_of new words has refl refl has.turn has.noted has.requests has.rows)
       (record {
@@ -173,7 +173,8 @@ module _ {X : Type 0} (seen : X → EngineView) (kind : Kind) (start : EngineVie
         called_for = record {
           failed = subst (λ (ask : Ask). AreMadeFor r.tied.calls (failed_asks r.m.work ask r.faults)) (sym same_ask) r.tied.called_for.failed;
           next = subst (λ (ask : Ask). AreNextAtSettling start.standing (progress_of [] start) r.tied.calls (failed_asks r.m.work ask r.faults)) (sym same_ask) r.tied.called_for.next;
-          made = makers_stay r.m new r.tied.calls refl (others_own v.client b r.m.book grows) (λ round unpublished. inr (record { recorded = unpublished.recorded; ahead = unpublished.ahead; own = subst (HasRequest round) (sym same_ask) unpublished.own })) r.tied.called_for.made;
+          asked = asked_stay r.m new r.tied.calls refl (others_go_on v.client b r.m.book on) r.tied.called_for.asked;
+          made = makers_stay r.m new r.tied.calls refl (others_go_on v.client b r.m.book on) (λ round unpublished. inr (record { recorded = unpublished.recorded; ahead = unpublished.ahead; own = subst (HasRequest round) (sym same_ask) unpublished.own })) r.tied.called_for.made;
         };
         sound = r.tied.sound;
       })

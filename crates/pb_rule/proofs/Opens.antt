@@ -10,7 +10,7 @@ use Rattle.pb_object.specs.Standing.{Standing, kept_list_of, newest_of}
 use Rattle.pb_core.specs.Client.{row_word, fresh_client}
 use Rattle.pb_core.specs.MemoryRun.{begun}
 use Rattle.pb_engine.specs.View.{EngineView, IsEngine}
-use Rattle.pb_engine.specs.Calls.{Made}
+use Rattle.pb_engine.specs.Calls.{Made, Failed}
 use Rattle.pb_engine.proofs.Coming.{at_start}
 use Rattle.pb_rule.specs.Opening.{HasStart}
 use Rattle.pb_rule.specs.View.{PassView, fresh_views}
@@ -130,7 +130,7 @@ module _ {X : Type 0} (seen : X → EngineView) (kind : Kind) where
     run = record { moves = 0; run = refl };
     kept = sound.kept.count;
     words = start_words start.standing start.device.faults words has;
-    tied = record { standing = refl; count = refl; suits = sure; calls = []; come = at_start start; called_for = record { failed = tt; next = tt; made = λ round ops call. absurd (contains-none (Made round ops) call) }; sound = sound };
+    tied = record { standing = refl; count = refl; suits = sure; calls = []; come = at_start start; called_for = record { failed = tt; next = tt; asked = λ failed ops call. absurd (contains-none (Failed failed ops) call); made = λ round ops call. absurd (contains-none (Made round ops) call) }; sound = sound };
     lies = (x, refl, ap (λ (l : List (Option X)). map some l) slots_are);
     below = tt;
     apart = omega arith;

@@ -1,22 +1,20 @@
 -- The calls of the device that a holder made since its last step, as moves of the core.
-use Rattle.std.proofs.Common.{arith, ◌+◌, ◌≡◌, ◌≢◌, ℕ, suc, ◌<◌, Bool, true, false, List, [], ◌∷◌, ◌++◌, length, Option, Some, None, sym, refl, ap, ◌∙◌, subst, inr}
+use Rattle.std.proofs.Common.{arith, ◌+◌, ◌≡◌, ◌≢◌, ℕ, suc, ◌<◌, Bool, true, false, List, [], ◌∷◌, ◌++◌, length, Option, Some, None, Contains, sym, refl, ap, ◌∙◌, subst, inr}
 use Rattle.std.proofs.lemmas.Bool.{false≢true}
 use lib.ListN.{get_elem?}
 use mathlib.Core.Option.{some}
 use Rattle.atomic_table.specs.Table.{State}
 use Rattle.pb_object.specs.declared.kind.Kind.{Kind}
 use Rattle.pb_object.specs.declared.request.Ask.{Ask}
-use Rattle.pb_object.specs.History.{Round, History, after_round, state_after, IsLegalRound}
+use Rattle.pb_object.specs.History.{Entry, Round, History, after_round, state_after}
 use Rattle.pb_object.specs.Standing.{Standing}
 use Rattle.pb_pmem.specs.declared.device.DeviceFault.{DeviceFault}
-use Rattle.pb_pmem.specs.declared.log.LogOp.{LogOp}
 use Rattle.pb_pmem.specs.Count.{Rose}
 use Rattle.pb_core.specs.Client.{Client, is_holding}
 use Rattle.pb_core.specs.HolderMoves.{round_by, HolderMove, beginning, recording, settling_none, settling_round, failing_settling, failing_before, failing_after, Begins}
 use Rattle.pb_core.specs.Memory.{Owner, Held, AtNumber, Work, Settling, Scanning, Calling, Filling, Noting, Engine, Resting, Recorded, Writing, Doubtful, Memory, clients_of, shown, known, known_by, with_round, coming, side_of}
 use Rattle.pb_core.specs.MemoryParts.{IsMemory, IsScan}
 use Rattle.pb_core.specs.MemoryRun.{called}
-use Rattle.pb_core.proofs.Holding.{begins_legal}
 use Rattle.pb_core.proofs.Scans.{the_scan, known_shown, meets_some}
 use Rattle.pb_core.proofs.Turns.{work_suits}
 use Rattle.pb_engine.specs.Asks.{asked_round}
@@ -31,9 +29,9 @@ use Rattle.pb_engine.proofs.MadeFor.{round_for_none, settling_for_none, failed_f
 use Rattle.pb_rule.specs.View.{OwnRound, PassView, numbers_of}
 use Rattle.pb_rule.specs.Plays.{own_by}
 use Rattle.pb_rule.specs.Ready.{Settled, FailedSettling, MadeRound, FailedRound as FailedMaking, Ready, untouched, settled_none, settled_round, recorded, failed_settling, failed_round}
-use Rattle.pb_rule.specs.Rule.{called_if, called_round, SuitsEngine, recorded_by, IsTied, IsAhead, IsOwn, IsHolder, HasNothing, IsViewOf, HasRun, Keeps, Fault, failed_calls, fault_asks, asked_by, failed_asks, IsUnpublished, IsNextOn, AreNextAtSettling, AreCalledFor}
+use Rattle.pb_rule.specs.Rule.{called_if, called_round, SuitsEngine, recorded_by, IsTied, IsAhead, IsOwn, IsHolder, HasNothing, IsViewOf, HasRun, Keeps, Fault, failed_calls, fault_asks, asked_by, failed_asks, IsUnpublished, IsNextOn, AreNextAtSettling, AreCalledFor, IsAskedFor}
 use Rattle.pb_rule.proofs.Known.{started}
-use Rattle.pb_rule.proofs.MadeRounds.{scanned_request, not_resting, not_doubtful, makers_stay, makers_more, held_next, round_next, settling_next, failed_next, failed_settling_next}
+use Rattle.pb_rule.proofs.MadeRounds.{goes_nowhere, scanned_request, not_resting, not_doubtful, makers_stay, makers_more, asked_stay, asked_more, ahead_asked, held_next, round_next, settling_next, failed_next, failed_settling_next}
 use Rattle.pb_rule.proofs.Movers.{own_view, is_memory}
 use Rattle.pb_rule.proofs.Rounds.{round_same}
 use Rattle.pb_rule.proofs.Runs.{moved_on, memory_of}
@@ -102,17 +100,12 @@ own_at work known before rounds own start published ahead is fits =
 abbrev settled_call : EngineView → EngineCall
 settled_call now = SettledCall (settle_to (header_for now.standing) now.standing)
 
-made_round : (a b : Round) (ops more : List LogOp) → Made a ops ≡ Made b more → a ≡ b
-made_round a b ops more is = cc
-
-failed_made : (failed : FailedRound) (round : Round) (ops more : List LogOp) → Failed failed ops ≡ Made round more → ⊥
-failed_made failed round ops more is = cc
-
-settled_made : (round : Round) (ops more : List LogOp) → SettledCall ops ≡ Made round more → ⊥
-settled_made round ops more is = cc
-
-failed_settling_made : (round : Round) (ops more : List LogOp) → FailedSettlingCall ops ≡ Made round more → ⊥
-failed_settling_made round ops more is = cc
+-- a round that is made waits to be published, and what one that fails has was asked for
+abbrev Suits : Memory → EngineCall → Type 0
+Suits m (Made round ops) = IsUnpublished m round
+Suits m (Failed failed ops) = (entry : Entry) → Contains failed.round.entries entry → IsAskedFor (clients_of m) m.book entry
+Suits m (SettledCall ops) = Unit {0}
+Suits m (FailedSettlingCall ops) = Unit {0}
 
 module _ {X : Type 0} (seen : X → EngineView) (kind : Kind) (start : EngineView) where
   abbrev Rule : State (Option X) (List PassView) → Type 0
@@ -174,13 +167,17 @@ module _ {X : Type 0} (seen : X → EngineView) (kind : Kind) (start : EngineVie
     -- what the engine was called for, with a call more
     one_called : (ahead : Option Round) (engine : Engine) (count : ℕ) (work : Work) (call : EngineCall) → (r.m.engine ≡ Recorded → ⊥) → AreMadeFor (r.tied.calls ++ call ∷ []) (failed_asks work (asked_by r.m.owner r.m.book) r.faults)
         → AreNextAtSettling start.standing (progress_of [] start) (r.tied.calls ++ call ∷ []) (failed_asks work (asked_by r.m.owner r.m.book) r.faults)
-        → ((round : Round) (ops : List LogOp) → call ≡ Made round ops → IsUnpublished (called_to r.m ahead engine count work) round) → AreCalledFor start (called_to r.m ahead engine count work) r.faults (r.tied.calls ++ call ∷ [])
+        → Suits (called_to r.m ahead engine count work) call → AreCalledFor start (called_to r.m ahead engine count work) r.faults (r.tied.calls ++ call ∷ [])
     one_called ahead engine count work call quiet failed next last = record {
       failed = failed;
       next = next;
-      made = makers_more (called_to r.m ahead engine count work) r.tied.calls call (λ round ops same. inr (last round ops same))
-          (makers_stay r.m (called_to r.m ahead engine count work) r.tied.calls refl (λ d entry own. own) (λ round unpublished. absurd (quiet unpublished.recorded)) r.tied.called_for.made);
+      asked = asked_more new r.tied.calls call (λ failed ops same. subst (Suits new) same last) (asked_stay r.m new r.tied.calls refl (λ d. goes_nowhere (r.m.book d)) r.tied.called_for.asked);
+      made = makers_more new r.tied.calls call (λ round ops same. inr (subst (Suits new) same last))
+          (makers_stay r.m new r.tied.calls refl (λ d. goes_nowhere (r.m.book d)) (λ round unpublished. absurd (quiet unpublished.recorded)) r.tied.called_for.made);
     }
+      where
+        new : Memory
+        new = called_to r.m ahead engine count work
 
     -- one call is one move
     one_call : (new : Memory) → HolderMove r.m c new → HasRun start new
@@ -249,7 +246,7 @@ module _ {X : Type 0} (seen : X → EngineView) (kind : Kind) (start : EngineVie
         suits = settled.settled.sure;
         calls = r.tied.calls ++ settled_call now ∷ [];
         come = subst (λ (h : History). HasCome start now h (length r.faults) (r.tied.calls ++ settled_call now ∷ [])) (uncalled_rounds r.m.published r.engine.doubt uncalled) (after_settled start r.engine now r.m.published (length r.faults) r.tied.calls (settling_come at) r.tied.sound.legal (settling_suits at).0 settled.settled settled.covers);
-        called_for = one_called r.m.ahead Resting r.m.count (Scanning 0 AtNumber []) (settled_call now) (quiet_at at) (settling_for_none r.tied.calls (settle_to (header_for now.standing) now.standing) (fault_asks r.faults) (settling_for at)) (settling_next start.standing (progress_of [] start) r.tied.calls (settle_to (header_for now.standing) now.standing) (fault_asks r.faults) (settling_for at) (next_before at)) (λ round ops same. absurd (settled_made round _ ops same));
+        called_for = one_called r.m.ahead Resting r.m.count (Scanning 0 AtNumber []) (settled_call now) (quiet_at at) (settling_for_none r.tied.calls (settle_to (header_for now.standing) now.standing) (fault_asks r.faults) (settling_for at)) (settling_next start.standing (progress_of [] start) r.tied.calls (settle_to (header_for now.standing) now.standing) (fault_asks r.faults) (settling_for at) (next_before at)) tt;
         sound = sound;
       };
       fills = λ stored fills. absurd (scanning_filling stored fills);
@@ -268,7 +265,7 @@ module _ {X : Type 0} (seen : X → EngineView) (kind : Kind) (start : EngineVie
         suits = settled.settled.sure;
         calls = r.tied.calls ++ settled_call now ∷ [];
         come = subst (λ (h : History). HasCome start now h (length r.faults) (r.tied.calls ++ settled_call now ∷ [])) (doubt.rounds_are ∙ ap (λ (a : Option Round). r.m.published ++ coming a) (sym ahead_is)) (after_settled start r.engine now r.m.published (length r.faults) r.tied.calls (settling_come at) r.tied.sound.legal (settling_suits at).0 settled.settled settled.covers);
-        called_for = one_called r.m.ahead Recorded r.m.count (Filling 0) (settled_call now) (quiet_at at) (settling_for_none r.tied.calls (settle_to (header_for now.standing) now.standing) (fault_asks r.faults) (settling_for at)) (settling_next start.standing (progress_of [] start) r.tied.calls (settle_to (header_for now.standing) now.standing) (fault_asks r.faults) (settling_for at) (next_before at)) (λ round ops same. absurd (settled_made round _ ops same));
+        called_for = one_called r.m.ahead Recorded r.m.count (Filling 0) (settled_call now) (quiet_at at) (settling_for_none r.tied.calls (settle_to (header_for now.standing) now.standing) (fault_asks r.faults) (settling_for at)) (settling_next start.standing (progress_of [] start) r.tied.calls (settle_to (header_for now.standing) now.standing) (fault_asks r.faults) (settling_for at) (next_before at)) tt;
         sound = sound;
       };
       fills = λ stored fills own is. own_at r.m.work Settling r.engine (length r.m.published) own r.m.start r.m.published r.m.ahead at tt;
@@ -293,7 +290,7 @@ module _ {X : Type 0} (seen : X → EngineView) (kind : Kind) (start : EngineVie
         suits = subst (λ (e : Engine). SuitsEngine e r.m.ahead now) (sym (doubtful at)) (failed.failed.unsure.sure, ap called_round failed.failed.doubt ∙ (settling_suits at).1);
         calls = r.tied.calls ++ FailedSettlingCall failed.failed.device.stops.ops ∷ [];
         come = subst (λ (e : Engine). HasCome start now (recorded_by e r.m.ahead r.m.published) (suc (length r.faults)) (r.tied.calls ++ FailedSettlingCall failed.failed.device.stops.ops ∷ [])) (sym (doubtful at)) (one_more_call (after_settling_failed start r.engine now r.m.published (length r.faults) r.tied.calls fault (settling_come at) (settling_suits at).0 failed.failed failed.covers));
-        called_for = one_called r.m.ahead r.m.engine now.device.faults (Noting r.m.count now.device.faults) (FailedSettlingCall failed.failed.device.stops.ops) (quiet_at at) (failed_settling_for r.tied.calls failed.failed.device.stops.ops (fault_asks r.faults) (asked_by r.m.owner r.m.book) (settling_for at)) (failed_settling_next start.standing (progress_of [] start) r.tied.calls failed.failed.device.stops.ops (fault_asks r.faults) (asked_by r.m.owner r.m.book) (own_next at) (settling_for at) (next_before at)) (λ round ops same. absurd (failed_settling_made round _ ops same));
+        called_for = one_called r.m.ahead r.m.engine now.device.faults (Noting r.m.count now.device.faults) (FailedSettlingCall failed.failed.device.stops.ops) (quiet_at at) (failed_settling_for r.tied.calls failed.failed.device.stops.ops (fault_asks r.faults) (asked_by r.m.owner r.m.book) (settling_for at)) (failed_settling_next start.standing (progress_of [] start) r.tied.calls failed.failed.device.stops.ops (fault_asks r.faults) (asked_by r.m.owner r.m.book) (own_next at) (settling_for at) (next_before at)) tt;
         sound = sound;
       };
       fills = λ stored fills. absurd (noting_filling r.m.count now.device.faults stored fills);
@@ -347,10 +344,6 @@ module _ {X : Type 0} (seen : X → EngineView) (kind : Kind) (start : EngineVie
       round_is =
           round_same (shown r.m) side 0 r.m.start.clients r.m.requests asks (meets_some c asks (scan.own there)) scan.seen_are r.engine.standing ∙ ap (λ (t : Standing). round_by side t asks) r.tied.standing
 
-      legal : IsLegalRound r.engine.standing (asked_round r.engine.standing asks)
-      legal =
-          subst (λ (t : Standing). IsLegalRound t (asked_round r.engine.standing asks)) (sym scan_known) (subst (IsLegalRound (shown r.m)) (sym (round_is ∙ ap (λ (t : Standing). round_by side t asks) (sym r.tied.standing ∙ scan_known))) (begins_legal is there begins))
-
       own_ahead : IsAhead r.m.start r.m.published (Some (round_by side (known r.m) asks)) (record { number = suc (length r.m.published); entries = (asked_round r.engine.standing asks).entries; kept = numbers_of r.engine.standing })
       own_ahead = record {
         number = refl;
@@ -367,6 +360,11 @@ module _ {X : Type 0} (seen : X → EngineView) (kind : Kind) (start : EngineVie
           (subst (HasRequest (round_by side (known r.m) asks)) (ap (λ (o : Owner). asked_by o r.m.book) (sym held))
           (scanned_request {m = begun_to} c (round_by side (known r.m) asks) (known r.m) asks (memory_of r.kept begun_run) there refl refl (scan.own there)))
 
+      -- and all that is in it was asked for
+      all_asked : (entry : Entry) → Contains (asked_round r.engine.standing asks).entries entry → IsAskedFor (clients_of r.m) r.m.book entry
+      all_asked entry one =
+          ahead_asked {m = begun_to} (round_by side (known r.m) asks) (memory_of r.kept begun_run) refl entry (subst (λ (round : Round). Contains round.entries entry) round_is one)
+
       prepare_recorded : (now : EngineView) (work : Work) → IsEngine kind now → MadeRound asks r.engine now → work ≡ Filling 0 → IsPrepared kind start r.m r.faults r.engine now work
       prepare_recorded now work sound made work_is = subst (λ (w : Work). IsPrepared kind start r.m r.faults r.engine now w) (sym work_is) (record {
         ahead = Some (round_by side (known r.m) asks);
@@ -378,9 +376,9 @@ module _ {X : Type 0} (seen : X → EngineView) (kind : Kind) (start : EngineVie
           count = made.made.device.faults ∙ r.tied.count;
           suits = made.made.sure;
           calls = r.tied.calls ++ Made (asked_round r.engine.standing asks) (round_ops r.engine (asked_round r.engine.standing asks) made.made.lines) ∷ [];
-          come = subst (λ (round : Round). HasCome start now (r.m.published ++ round ∷ []) (length r.faults) (r.tied.calls ++ Made (asked_round r.engine.standing asks) (round_ops r.engine (asked_round r.engine.standing asks) made.made.lines) ∷ [])) round_is (after_round_made start r.engine now r.m.published (length r.faults) r.tied.calls (asked_round r.engine.standing asks) scan_come legal sure decided made.made made.covers);
+          come = subst (λ (round : Round). HasCome start now (r.m.published ++ round ∷ []) (length r.faults) (r.tied.calls ++ Made (asked_round r.engine.standing asks) (round_ops r.engine (asked_round r.engine.standing asks) made.made.lines) ∷ [])) round_is (after_round_made start r.engine now r.m.published (length r.faults) r.tied.calls (asked_round r.engine.standing asks) scan_come sure decided made.made made.covers);
           called_for = one_called (Some (round_by side (known r.m) asks)) Recorded r.m.count (Filling 0) (Made (asked_round r.engine.standing asks) (round_ops r.engine (asked_round r.engine.standing asks) made.made.lines)) quiet (round_for_none r.tied.calls (asked_round r.engine.standing asks) (round_ops r.engine (asked_round r.engine.standing asks) made.made.lines) (fault_asks r.faults) scan_for) (round_next start.standing (progress_of [] start) r.tied.calls (asked_round r.engine.standing asks) (round_ops r.engine (asked_round r.engine.standing asks) made.made.lines) (fault_asks r.faults) scan_for scan_next)
-              (λ round ops same. subst (IsUnpublished (called_to r.m (Some (round_by side (known r.m) asks)) Recorded r.m.count (Filling 0))) (made_round _ round _ ops same) (record { recorded = refl; ahead = ap Some (sym round_is); own = own_request }));
+              (record { recorded = refl; ahead = ap Some (sym round_is); own = own_request });
           sound = sound;
         };
         fills = λ stored fills own is. own_at r.m.work (Scanning (clients_of r.m) AtNumber asks) r.engine (length r.m.published) own r.m.start r.m.published (Some (round_by side (known r.m) asks)) at own_ahead;
@@ -398,10 +396,10 @@ module _ {X : Type 0} (seen : X → EngineView) (kind : Kind) (start : EngineVie
           call = Failed (record { round = asked_round r.engine.standing asks; called = failed.failed.called }) failed.failed.device.stops.ops
 
           come : HasCome start now r.m.published (suc (length r.faults)) (r.tied.calls ++ Failed (record { round = asked_round r.engine.standing asks; called = failed.failed.called }) failed.failed.device.stops.ops ∷ [])
-          come = one_more_call (after_round_failed start r.engine now r.m.published (length r.faults) r.tied.calls (asked_round r.engine.standing asks) fault scan_come legal sure decided failed.failed failed.covers)
+          come = one_more_call (after_round_failed start r.engine now r.m.published (length r.faults) r.tied.calls (asked_round r.engine.standing asks) fault scan_come sure decided failed.failed failed.covers)
 
           failed_is : (ahead : Option Round) → AreCalledFor start (called_to r.m ahead Doubtful now.device.faults (Noting r.m.count now.device.faults)) r.faults (r.tied.calls ++ Failed (record { round = asked_round r.engine.standing asks; called = failed.failed.called }) failed.failed.device.stops.ops ∷ [])
-          failed_is ahead = one_called ahead Doubtful now.device.faults (Noting r.m.count now.device.faults) call quiet (failed_for r.tied.calls (record { round = asked_round r.engine.standing asks; called = failed.failed.called }) failed.failed.device.stops.ops (fault_asks r.faults) (asked_by r.m.owner r.m.book) own_request scan_for) (failed_next start.standing (progress_of [] start) r.tied.calls (record { round = asked_round r.engine.standing asks; called = failed.failed.called }) failed.failed.device.stops.ops (fault_asks r.faults) (asked_by r.m.owner r.m.book) scan_for scan_next) (λ round ops same. absurd (failed_made _ round _ ops same))
+          failed_is ahead = one_called ahead Doubtful now.device.faults (Noting r.m.count now.device.faults) call quiet (failed_for r.tied.calls (record { round = asked_round r.engine.standing asks; called = failed.failed.called }) failed.failed.device.stops.ops (fault_asks r.faults) (asked_by r.m.owner r.m.book) own_request scan_for) (failed_next start.standing (progress_of [] start) r.tied.calls (record { round = asked_round r.engine.standing asks; called = failed.failed.called }) failed.failed.device.stops.ops (fault_asks r.faults) (asked_by r.m.owner r.m.book) scan_for scan_next) all_asked
 
           doubt_is : (b : Bool) → failed.failed.called ≡ b → called_round now.doubt ≡ called_if b (asked_round r.engine.standing asks)
           doubt_is b e = ap called_round failed.failed.doubt ∙ ap (λ (x : Bool). called_if x (asked_round r.engine.standing asks)) e

@@ -28,7 +28,7 @@ use Rattle.pb_rule.specs.View.{Turn, PassView}
 use Rattle.pb_rule.specs.Plays.{Seated, the_view, IsPlain, IsNoEarlier, last_look, first_turn, first_work, taken, HasTakenOrMissed}
 use Rattle.pb_rule.specs.Rule.{called_round, HasWords, LiesAt, SuitsEngine, IsViewOf, Keeps, failed_calls, fault_asks, asked_by, failed_asks, AreNextAtSettling, AreCalledFor, recorded_by, Fault}
 use Rattle.pb_rule.proofs.Known.{engine_clients}
-use Rattle.pb_rule.proofs.MadeRounds.{others_own, not_resting, not_doubtful, makers_stay}
+use Rattle.pb_rule.proofs.MadeRounds.{stays_open, others_go_on, not_resting, not_doubtful, makers_stay, asked_stay}
 use Rattle.pb_rule.proofs.Movers.{own_view, running, is_memory, keeps_rule, client_moves, others_stay, free_lonely}
 use Rattle.pb_rule.proofs.Waits.{stands, no_earlier, step_of, same_words, stage_of, front_at}
 use Rattle.pb_rule.proofs.WordLemmas.{words_of, turn_stored}
@@ -108,7 +108,8 @@ module _ {X : Type 0} (seen : X → EngineView) (kind : Kind) (start : EngineVie
       called_for = record {
         failed = subst (AreMadeFor r.tied.calls) same_asks r.tied.called_for.failed;
         next = subst (AreNextAtSettling start.standing (progress_of [] start) r.tied.calls) same_asks r.tied.called_for.next;
-        made = makers_stay r.m new r.tied.calls refl (others_own v.client (go_to Holding (r.m.book v.client)) r.m.book (λ entry mine. mine)) (λ round unpublished. absurd (quiet (free_suits (is_memory seen kind start r) free).1 unpublished.recorded)) r.tied.called_for.made;
+        asked = asked_stay r.m new r.tied.calls refl (others_go_on v.client (go_to Holding (r.m.book v.client)) r.m.book (stays_open _ _ refl refl refl)) r.tied.called_for.asked;
+        made = makers_stay r.m new r.tied.calls refl (others_go_on v.client (go_to Holding (r.m.book v.client)) r.m.book (stays_open _ _ refl refl refl)) (λ round unpublished. absurd (quiet (free_suits (is_memory seen kind start r) free).1 unpublished.recorded)) r.tied.called_for.made;
       }
 
       turned : HasWords (record r.m { turn = turn + 1 }) (set s.words 0 (turn + 1))
@@ -159,7 +160,7 @@ module _ {X : Type 0} (seen : X → EngineView) (kind : Kind) (start : EngineVie
     tt,
     client_moves seen kind start r id v (sees Looking met v.body) (v.notes ++ Turn met ∷ []) (sees Looking r.m.turn (r.m.book v.client)) r.m.requests r.m.answers (set s.words 0 met) here
         (step_of seen kind start r v.client _ _ own.there (missing (record { turn = turn; found = found; at = stage_of seen kind start r v _ own stage; other = λ e. other (r.words.turn ∙ e); is = refl; says = refl })))
-        (same_words seen kind start s.words 0 r.words) (λ i. sees Looking (r.words.turn i) (own.body i)) (ap is_holding stage) refl tt (λ entry mine. mine),
+        (same_words seen kind start s.words 0 r.words) (λ i. sees Looking (r.words.turn i) (own.body i)) (ap is_holding stage) refl tt (stays_open _ _ refl refl refl),
     record { later = no_earlier seen kind start r id me here; hit = λ e. absurd (other (e ∙ ap first_turn stage)); miss = λ _. refl },
   )
     where

@@ -9,7 +9,7 @@ use Rattle.pb_object.specs.declared.kind.Kind.{Kind}
 use Rattle.pb_object.specs.declared.request.Reply.{Reply}
 use Rattle.pb_core.specs.declared.event.Stepped.{Stepped}
 use Rattle.pb_core.specs.declared.event.Stepped.TheVariants.{Went}
-use Rattle.pb_core.specs.Client.{Stage, Looking, LoadsNumber, LoadsCode, LoadsValue, LoadsExtra, Confirming, Lacking, Taking, Client, is_holding, entry_by}
+use Rattle.pb_core.specs.Client.{Stage, Looking, LoadsNumber, LoadsCode, LoadsValue, LoadsExtra, Confirming, Lacking, Taking, Client, is_idle, is_holding, entry_by}
 use Rattle.pb_core.proofs.Waiting.{turn_rounds}
 use Rattle.pb_core.specs.Memory.{Memory, with_client, clients_of, round_of_turn}
 use Rattle.pb_core.specs.MemoryRun.{stepped}
@@ -20,7 +20,7 @@ use Rattle.pb_rule.specs.Plays.{Seated, the_view, IsPlain, IsNoEarlier, with_vie
 use Rattle.pb_rule.specs.Rule.{row_place, HasWords, HasFront, IsViewOf, HasRun, Keeps}
 use Rattle.pb_rule.specs.Seats.{IsRowPlace, at_code, at_value, at_extra}
 use Rattle.pb_rule.proofs.Runs.{moved_on}
-use Rattle.pb_rule.proofs.MadeRounds.{answered_keeps}
+use Rattle.pb_rule.proofs.MadeRounds.{stays_open, is_answered}
 use Rattle.pb_rule.proofs.Movers.{loaded, own_view, running, is_memory, client_moves}
 
 module _ {X : Type 0} (seen : X → EngineView) (kind : Kind) (start : EngineView) where
@@ -64,7 +64,7 @@ module _ {X : Type 0} (seen : X → EngineView) (kind : Kind) (start : EngineVie
 
   pub looks_first : (slots id : ℕ) (me : Seated X) → IsPlain me → (the_view me).body.stage ≡ Looking → Allows Rule slots id me 0 (λ n. n) (λ found new. (new ≡ with_view (first_look found) me) × IsNoEarlier found me)
   looks_first slots id me plain stage s r deep at small =
-      (first_look found v ∷ [], keeps, tt, client_moves seen kind start r id v (sees (LoadsNumber found) found v.body) (Turn found ∷ []) b r.m.requests r.m.answers (set s.words 0 found) here run (same_words s.words 0 r.words) (λ i. sees (LoadsNumber (r.words.turn i)) (r.words.turn i) (own.body i)) (free_at v.body.stage Looking stage refl) refl refl (λ entry mine. mine), (refl, no_earlier r id me here))
+      (first_look found v ∷ [], keeps, tt, client_moves seen kind start r id v (sees (LoadsNumber found) found v.body) (Turn found ∷ []) b r.m.requests r.m.answers (set s.words 0 found) here run (same_words s.words 0 r.words) (λ i. sees (LoadsNumber (r.words.turn i)) (r.words.turn i) (own.body i)) (free_at v.body.stage Looking stage refl) refl refl (stays_open _ _ refl refl refl), (refl, no_earlier r id me here))
     where
       found : ℕ
       found = get_or s.words 0 0
@@ -90,7 +90,7 @@ module _ {X : Type 0} (seen : X → EngineView) (kind : Kind) (start : EngineVie
 
   pub looks_last : (slots id : ℕ) (me : Seated X) (found_first : ℕ) → IsPlain me → (the_view me).body.stage ≡ Lacking (first_turn (the_view me).body.stage) found_first → Allows Rule slots id me 0 (λ n. n) (λ found new. (new ≡ with_view (last_look found) me) × IsNoEarlier found me)
   looks_last slots id me found_first plain stage s r deep at small =
-      (last_look found v ∷ [], keeps, tt, client_moves seen kind start r id v (sees Looking found v.body) (v.notes ++ Turn found ∷ []) b r.m.requests r.m.answers (set s.words 0 found) here run (same_words s.words 0 r.words) (λ i. sees Looking (r.words.turn i) (own.body i)) (free_at v.body.stage _ stage refl) refl tt (λ entry mine. mine), (refl, no_earlier r id me here))
+      (last_look found v ∷ [], keeps, tt, client_moves seen kind start r id v (sees Looking found v.body) (v.notes ++ Turn found ∷ []) b r.m.requests r.m.answers (set s.words 0 found) here run (same_words s.words 0 r.words) (λ i. sees Looking (r.words.turn i) (own.body i)) (free_at v.body.stage _ stage refl) refl tt (stays_open _ _ refl refl refl), (refl, no_earlier r id me here))
     where
       found : ℕ
       found = get_or s.words 0 0
@@ -156,7 +156,7 @@ module _ {X : Type 0} (seen : X → EngineView) (kind : Kind) (start : EngineVie
             is = refl;
             says = refl;
           })))
-          (same_words s.words 0 r.words) (λ i. answered reply (round_of_turn (turn i)) (own.body i)) (free_at v.body.stage _ stage refl) refl tt (answered_keeps reply (round_of_turn r.m.turn) (r.m.book v.client))
+          (same_words s.words 0 r.words) (λ i. answered reply (round_of_turn (turn i)) (own.body i)) (free_at v.body.stage _ stage refl) refl tt (is_answered reply (round_of_turn r.m.turn) (r.m.book v.client))
       by false e =
           client_moves seen kind start r id v (sees Looking found v.body) (v.notes ++ Turn found ∷ []) (sees Looking r.m.turn (r.m.book v.client)) r.m.requests r.m.answers (set s.words 0 found) here
           (step_of r v.client _ _ own.there (finding_new (record {
@@ -167,7 +167,7 @@ module _ {X : Type 0} (seen : X → EngineView) (kind : Kind) (start : EngineVie
             is = refl;
             says = refl;
           })))
-          (same_words s.words 0 r.words) (λ i. sees Looking (turn i) (own.body i)) (free_at v.body.stage _ stage refl) refl tt (λ entry mine. mine)
+          (same_words s.words 0 r.words) (λ i. sees Looking (turn i) (own.body i)) (free_at v.body.stage _ stage refl) refl tt (stays_open _ _ refl refl refl)
 
   -- The published row
 
@@ -212,17 +212,17 @@ module _ {X : Type 0} (seen : X → EngineView) (kind : Kind) (start : EngineVie
       number : (r.m.book (the_view me).client).ask.number ≡ (the_view me).body.ask.number
       number = ap (λ (b : Client). b.ask.number) (sym own.body)
 
-      moves : (next known : Stage) → next ≡ known → is_holding next ≡ false → HasFront next (the_view me).body.front → WordMove r.m (the_view me).client (with_client (the_view me).client (go_to known (r.m.book (the_view me).client)) r.m) Went
+      moves : (next known : Stage) → next ≡ known → is_holding next ≡ false → is_idle known ≡ false → HasFront next (the_view me).body.front → WordMove r.m (the_view me).client (with_client (the_view me).client (go_to known (r.m.book (the_view me).client)) r.m) Went
           → Rule (record { words = set s.words (row_place client row 0) (get_or s.words (row_place client row 0) 0); homes = s.homes; views = set s.views id (record (the_view me) { body = go_to next (the_view me).body; notes = (the_view me).notes ++ Row (get_or s.words (row_place client row 0) 0) ∷ [] } ∷ []) })
-      moves next known is free fits move =
-          client_moves seen kind start r id v (go_to next v.body) (v.notes ++ Row found ∷ []) (go_to known (r.m.book v.client)) r.m.requests r.m.answers (set s.words place found) here (step_of r v.client _ Went own.there move) (same_words s.words place r.words) (λ i. go_to (is i) (own.body i)) (free_at v.body.stage _ stage refl) free fits (λ entry mine. mine)
+      moves next known is free asks fits move =
+          client_moves seen kind start r id v (go_to next v.body) (v.notes ++ Row found ∷ []) (go_to known (r.m.book v.client)) r.m.requests r.m.answers (set s.words place found) here (step_of r v.client _ Went own.there move) (same_words s.words place r.words) (λ i. go_to (is i) (own.body i)) (free_at v.body.stage _ stage refl) free fits (stays_open _ _ refl refl asks)
 
       by : (same held : Bool) → eqb (get_or s.words (row_place client row 0) 0) (the_view me).body.ask.number ≡ same → eqb (first_turn (the_view me).body.stage % 2) 1 ≡ held
           → Rule (record { words = set s.words (row_place client row 0) (get_or s.words (row_place client row 0) 0); homes = s.homes; views = set s.views id (record (the_view me) { body = go_to (if same then LoadsCode (first_turn (the_view me).body.stage) else (if held then Lacking (first_turn (the_view me).body.stage) (get_or s.words (row_place client row 0) 0) else Taking (first_turn (the_view me).body.stage) (get_or s.words (row_place client row 0) 0))) (the_view me).body; notes = (the_view me).notes ++ Row (get_or s.words (row_place client row 0) 0) ∷ [] } ∷ []) })
-      by true held e h = moves (LoadsCode turn) (LoadsCode turn) refl refl front (matching (record { turn = turn; at = there; own = sym word ∙ (eqb-true _ _ e ∙ sym number); is = refl; says = refl }))
-      by false true e h = moves (Lacking turn found) (Lacking turn (own_row r.m turn v.client 0)) (ap (Lacking turn) word) refl front
+      by true held e h = moves (LoadsCode turn) (LoadsCode turn) refl refl refl front (matching (record { turn = turn; at = there; own = sym word ∙ (eqb-true _ _ e ∙ sym number); is = refl; says = refl }))
+      by false true e h = moves (Lacking turn found) (Lacking turn (own_row r.m turn v.client 0)) (ap (Lacking turn) word) refl refl front
           (lacking_held (record { turn = turn; at = there; other = λ same. eqb-false _ _ e (word ∙ (same ∙ number)); held = eqb-true _ _ h; is = refl; says = refl }))
-      by false false e h = moves (Taking turn found) (Taking turn (own_row r.m turn v.client 0)) (ap (Taking turn) word) refl front
+      by false false e h = moves (Taking turn found) (Taking turn (own_row r.m turn v.client 0)) (ap (Taking turn) word) refl refl front
           (lacking_free (record { turn = turn; at = there; other = λ same. eqb-false _ _ e (word ∙ (same ∙ number)); free = even turn (eqb-false _ _ h); is = refl; says = refl }))
         where
           even : (n : ℕ) → n % 2 ≢ 1 → n % 2 ≡ 0
@@ -249,26 +249,26 @@ module _ {X : Type 0} (seen : X → EngineView) (kind : Kind) (start : EngineVie
       word few turn turn_is =
           r.words.rows row client place (omega (arith, row_is)) (omega (arith, client_is, own.there)) few ∙ (λ i. r.m.rows ((row_is ∙ ap (λ (t : ℕ). round_of_turn t % 2) turn_is) i) (client_is i) place)
 
-      moves : (stage next known : Stage) → (the_view me).body.stage ≡ stage → is_holding stage ≡ false → next ≡ known → is_holding next ≡ false → HasFront next (the_view me).body.front
+      moves : (stage next known : Stage) → (the_view me).body.stage ≡ stage → is_holding stage ≡ false → next ≡ known → is_holding next ≡ false → is_idle known ≡ false → HasFront next (the_view me).body.front
           → WordMove r.m (the_view me).client (with_client (the_view me).client (go_to known (r.m.book (the_view me).client)) r.m) Went
           → word_found (get_or s.words (row_place client row place) 0) stage ≡ next
           → Rule (record { words = set s.words (row_place client row place) (get_or s.words (row_place client row place) 0); homes = s.homes; views = set s.views id (row_word_found (get_or s.words (row_place client row place) 0) (the_view me) ∷ []) })
-      moves from next known is before same free fits move found_is =
+      moves from next known is before same free asks fits move found_is =
           subst (λ (t : Stage). Rule (record { words = set s.words (row_place client row place) found; homes = s.homes; views = set s.views id (record v { body = go_to t v.body } ∷ []) })) (sym (ap (word_found found) is ∙ found_is))
-          (client_moves seen kind start r id v (go_to next v.body) v.notes (go_to known (r.m.book v.client)) r.m.requests r.m.answers (set s.words (row_place client row place) found) here (step_of r v.client _ Went own.there move) (same_words s.words (row_place client row place) r.words) (λ i. go_to (same i) (own.body i)) (free_at v.body.stage _ is before) free fits (λ entry mine. mine))
+          (client_moves seen kind start r id v (go_to next v.body) v.notes (go_to known (r.m.book v.client)) r.m.requests r.m.answers (set s.words (row_place client row place) found) here (step_of r v.client _ Went own.there move) (same_words s.words (row_place client row place) r.words) (λ i. go_to (same i) (own.body i)) (free_at v.body.stage _ is before) free fits (stays_open _ _ refl refl asks))
 
       by : IsRowPlace (the_view me).body.stage place → Rule (record { words = set s.words (row_place client row place) (get_or s.words (row_place client row place) 0); homes = s.homes; views = set s.views id (row_word_found (get_or s.words (row_place client row place) 0) (the_view me) ∷ []) })
       by (at_code turn is one) =
           let w = word (omega (arith, one)) turn (ap first_turn is) ∙ ap (own_row r.m turn v.client) one in
-          moves (LoadsCode turn) (LoadsValue turn found) (LoadsValue turn (own_row r.m turn v.client 1)) is refl (ap (LoadsValue turn) w) refl (front_at v.body.stage _ v.body.front is own.front)
+          moves (LoadsCode turn) (LoadsValue turn found) (LoadsValue turn (own_row r.m turn v.client 1)) is refl (ap (LoadsValue turn) w) refl refl (front_at v.body.stage _ v.body.front is own.front)
           (loading_code (record { turn = turn; at = stage_of r v _ own is; is = refl; says = refl })) refl
       by (at_value turn code is two) =
           let w = word (omega (arith, two)) turn (ap first_turn is) ∙ ap (own_row r.m turn v.client) two in
-          moves (LoadsValue turn code) (LoadsExtra turn code found) (LoadsExtra turn code (own_row r.m turn v.client 2)) is refl (ap (LoadsExtra turn code) w) refl (front_at v.body.stage _ v.body.front is own.front)
+          moves (LoadsValue turn code) (LoadsExtra turn code found) (LoadsExtra turn code (own_row r.m turn v.client 2)) is refl (ap (LoadsExtra turn code) w) refl refl (front_at v.body.stage _ v.body.front is own.front)
           (loading_value (record { turn = turn; code = code; at = stage_of r v _ own is; is = refl; says = refl })) refl
       by (at_extra turn code value is three) =
           let w = word (omega (arith, three)) turn (ap first_turn is) ∙ ap (own_row r.m turn v.client) three in
-          moves (LoadsExtra turn code value) (Confirming turn (record { code = code; value = value; extra = found })) (Confirming turn (record { code = code; value = value; extra = own_row r.m turn v.client 3 })) is refl (λ i. Confirming turn (record { code = code; value = value; extra = w i })) refl (front_at v.body.stage _ v.body.front is own.front)
+          moves (LoadsExtra turn code value) (Confirming turn (record { code = code; value = value; extra = found })) (Confirming turn (record { code = code; value = value; extra = own_row r.m turn v.client 3 })) is refl (λ i. Confirming turn (record { code = code; value = value; extra = w i })) refl refl (front_at v.body.stage _ v.body.front is own.front)
           (loading_extra (record { turn = turn; code = code; value = value; at = stage_of r v _ own is; is = refl; says = refl })) refl
 
   pub finds_number_at : (slots id word client row : ℕ) (me : Seated X) → word ≡ row_place client row 0 → IsPlain me → client ≡ (the_view me).client → row ≡ round_of_turn (first_turn (the_view me).body.stage) % 2

@@ -4,12 +4,12 @@ use Rattle.pb_object.specs.declared.kind.Kind.{Kind}
 use Rattle.pb_pmem.specs.declared.log.LogOp.{LogOp}
 use Rattle.pb_object.specs.History.{Entry, Round, History, state_after, IsLegal, IsLegalRound}
 use Rattle.pb_object.specs.Standing.{Standing, kept_list_of, newest_of}
-use Rattle.pb_core.specs.Client.{row_word, is_holding}
-use Rattle.pb_core.specs.MemoryParts.{own_entries, HasEntries, AreDated}
-use Rattle.pb_engine.specs.Calls.{EngineCall, Made, progress_of, AreMadeFor}
+use Rattle.pb_core.specs.Client.{Client, row_word, is_holding}
+use Rattle.pb_core.specs.MemoryParts.{HasEntries, AreDated}
+use Rattle.pb_engine.specs.Calls.{EngineCall, Made, Failed, progress_of, AreMadeFor}
 use Rattle.pb_engine.specs.Good.{HasCome}
-use Rattle.pb_engine.specs.View.{EngineView, IsEngine}
-use Rattle.pb_rule.specs.Rule.{request_place, row_place, word_count, called_round, AreServed, Fault, AreApart, AreOfClients, fault_asks, met_by, AreNextAtSettling}
+use Rattle.pb_engine.specs.View.{EngineView, FailedRound, IsEngine}
+use Rattle.pb_rule.specs.Rule.{request_place, row_place, word_count, called_round, AreServed, Fault, AreApart, AreOfClients, fault_asks, met_by, AreNextAtSettling, HasAnswered, HasAskedFor}
 use Rattle.pb_rule.specs.View.{PassView}
 
 abbrev pub first_of : List PassView → List PassView
@@ -51,21 +51,15 @@ abbrev pub AreEnded : Standing → History → Option Round → List Fault → L
 AreEnded start published ahead faults [] = Unit {0}
 AreEnded start published ahead faults (v ∷ views) = IsEnded start published ahead faults v × AreEnded start published ahead faults views
 
--- this pass was answered an entry of the round
-pub record HasAnswered (round : Round) (v : PassView) : Type 0 where
-  pub entry : Entry
-  pub one : Contains round.entries entry
-  pub own : Contains (own_entries v.body) entry
-
--- one of these was
-abbrev pub HasAnsweredOne : Round → List PassView → Type 0
-HasAnsweredOne round [] = ⊥
-HasAnsweredOne round (v ∷ views) = HasAnswered round v ⊎ HasAnsweredOne round views
+-- so it is with one of these passes
+abbrev pub OneOf : (Client → Type 0) → List PassView → Type 0
+OneOf so [] = ⊥
+OneOf so (v ∷ views) = so v.body ⊎ OneOf so views
 
 -- What all came to: rounds that are legal and published, and perhaps one in doubt, which is legal after them; the engine came by the published
 -- ones from where it was shared, and each call of it that failed was answered as a fault to one of the clients, for its request, which a round
--- that failed has, and which was its client's next one where a settling failed; the faults' intervals lie apart. Each round that was made has an
--- entry that one of the passes was answered
+-- that failed has, and which was its client's next one where a settling failed; the faults' intervals lie apart. What else a round that failed
+-- has was asked for by one of the passes, too. Each round that was made has an entry that one of them was answered
 pub record HasEnded (kind : Kind) (start engine : EngineView) (views : List PassView) : Type 0 where
   pub published : History
   pub ahead : Option Round
@@ -78,7 +72,8 @@ pub record HasEnded (kind : Kind) (start engine : EngineView) (views : List Pass
   pub come : HasCome start engine published (length faults) calls
   pub failed : AreMadeFor calls (fault_asks faults)
   pub next_at : AreNextAtSettling start.standing (progress_of [] start) calls (fault_asks faults)
-  pub made : (round : Round) (ops : List LogOp) → Contains calls (Made round ops) → HasAnsweredOne round views
+  pub asked : (failed : FailedRound) (ops : List LogOp) → Contains calls (Failed failed ops) → (entry : Entry) → Contains failed.round.entries entry → OneOf (HasAskedFor entry) views
+  pub made : (round : Round) (ops : List LogOp) → Contains calls (Made round ops) → OneOf (HasAnswered round) views
   pub apart : AreApart 0 faults engine.device.faults
   pub clients : AreOfClients start.standing.clients faults
   pub passes : AreEnded start.standing published ahead faults views

@@ -8,9 +8,10 @@ use Rattle.pb_pmem.specs.Count.{Rose}
 use Rattle.pb_pmem.specs.declared.log.LogOp.{LogOp}
 use Rattle.pb_object.specs.declared.kind.Kind.{Kind}
 use Rattle.pb_object.specs.declared.request.Ask.{Ask}
+use Rattle.pb_object.specs.declared.request.Reply.{Reply}
 use Rattle.pb_object.specs.History.{Entry, Round, History, state_after}
 use Rattle.pb_object.specs.Standing.{Standing, newest_of}
-use Rattle.pb_core.specs.Client.{Stage, Idle, Storing, Looking, LoadsNumber, LoadsCode, LoadsValue, LoadsExtra, Confirming, Lacking, Taking, Holding, Client, is_holding, no_ask}
+use Rattle.pb_core.specs.Client.{Stage, Idle, Storing, Looking, LoadsNumber, LoadsCode, LoadsValue, LoadsExtra, Confirming, Lacking, Taking, Holding, Client, is_idle, is_holding, entry_by, no_ask}
 use Rattle.pb_core.specs.Memory.{Owner, Free, Held, Closed, Work, NoWork, Settling, Scanning, Calling, Filling, Noting, GivingUp, Engine, Resting, Recorded, Writing, Doubtful, Memory, clients_of, known, coming, round_of_turn}
 use Rattle.pb_core.specs.MemoryParts.{own_entries}
 use Rattle.pb_core.specs.MemoryRun.{begun, MemoryRun}
@@ -89,8 +90,8 @@ failed_asks (GivingUp from to) ask faults = fault_asks faults
 abbrev pub IsNextOn : Standing → Ask → Type 0
 IsNextOn s ask = ask.number ≡ (newest_of s ask.client).number + 1
 
--- where a settling failed, its request was its client's next one on what was recorded for sure by then: neither answered yet nor asked for
--- only later
+-- where a settling failed, its request was its client's next one on what was recorded for sure by then: it wasn't recorded yet, and all before
+-- it was
 abbrev pub AreNextAtSettling : Standing → Progress → List EngineCall → List Ask → Type 0
 AreNextAtSettling s p [] asks = Unit {0}
 AreNextAtSettling s p (Made round ops ∷ calls) asks = AreNextAtSettling s (after_call p (Made round ops)) calls asks
@@ -104,12 +105,16 @@ AreNextAtSettling s p (FailedSettling ops ∷ calls) (ask ∷ asks) =
 -- Rounds that were made
 
 -- a client was answered an entry of it
-pub record HasAnsweredClient (clients : ℕ) (book : ℕ → Client) (round : Round) : Type 0 where
-  pub client : ℕ
-  pub there : client < clients
+pub record HasAnswered (round : Round) (b : Client) : Type 0 where
   pub entry : Entry
   pub one : Contains round.entries entry
-  pub own : Contains (own_entries (book client)) entry
+  pub own : Contains (own_entries b) entry
+
+-- one of these clients was
+pub record HasAnsweredOne (clients : ℕ) (book : ℕ → Client) (round : Round) : Type 0 where
+  pub client : ℕ
+  pub there : client < clients
+  pub has : HasAnswered round (book client)
 
 -- it is recorded, and waits to be published: the holder's request is in it
 pub record IsUnpublished (m : Memory) (round : Round) : Type 0 where
@@ -119,13 +124,40 @@ pub record IsUnpublished (m : Memory) (round : Round) : Type 0 where
 
 abbrev pub AreAnsweredOrAhead : Memory → List EngineCall → Type 0
 AreAnsweredOrAhead m calls =
-    (round : Round) (ops : List LogOp) → Contains calls (Made round ops) → HasAnsweredClient (clients_of m) m.book round ⊎ IsUnpublished m round
+    (round : Round) (ops : List LogOp) → Contains calls (Made round ops) → HasAnsweredOne (clients_of m) m.book round ⊎ IsUnpublished m round
 
--- What the engine was called for: each call that failed for the request of whoever was answered the fault, or is about to note it; and each
--- round that was made has an entry that a client was answered, or waits to be published and has the holder's request
+-- Rounds that failed
+
+-- an entry has the request that a client has open, ..
+pub record IsOpen (entry : Entry) (b : Client) : Type 0 where
+  pub asks : is_idle b.stage ≡ false
+  pub same : entry ≡ entry_by b.ask entry.reply
+
+-- .. or one that it was answered, perhaps with another reply
+pub record WasAnswered (entry : Entry) (b : Client) : Type 0 where
+  pub reply : Reply
+  pub own : Contains (own_entries b) (record entry { reply = reply })
+
+-- the client asked for it
+abbrev pub HasAskedFor : Entry → Client → Type 0
+HasAskedFor entry b = IsOpen entry b ⊎ WasAnswered entry b
+
+-- an entry's client is one of these, and asked for it
+pub record IsAskedFor (clients : ℕ) (book : ℕ → Client) (entry : Entry) : Type 0 where
+  pub there : entry.client < clients
+  pub asked : HasAskedFor entry (book entry.client)
+
+abbrev pub AreAskedFor : Memory → List EngineCall → Type 0
+AreAskedFor m calls =
+    (failed : FailedRound) (ops : List LogOp) → Contains calls (Failed failed ops) → (entry : Entry) → Contains failed.round.entries entry → IsAskedFor (clients_of m) m.book entry
+
+-- What the engine was called for: each call that failed for the request of whoever was answered the fault, or is about to note it; a round that
+-- failed has requests alone that its clients asked for; and each round that was made has an entry that a client was answered, or waits to be
+-- published and has the holder's request
 pub record AreCalledFor (start : EngineView) (m : Memory) (faults : List Fault) (calls : List EngineCall) : Type 0 where
   pub failed : AreMadeFor calls (failed_asks m.work (asked_by m.owner m.book) faults)
   pub next : AreNextAtSettling start.standing (progress_of [] start) calls (failed_asks m.work (asked_by m.owner m.book) faults)
+  pub asked : AreAskedFor m calls
   pub made : AreAnsweredOrAhead m calls
 
 -- The engine

@@ -12,7 +12,7 @@ use Rattle.pb_object.specs.declared.request.Kept.{Kept as KeptRequest}
 use Rattle.pb_object.specs.declared.request.Reply.{Reply}
 use Rattle.pb_object.specs.History.{Entry, Round, History, after_entry, after_entries, after_round, state_after, IsLegal, IsLegalRound, AreLegal}
 use Rattle.pb_object.specs.Standing.{Standing, kept_list_of}
-use Rattle.pb_core.specs.Client.{Idle, is_announced, entry_by}
+use Rattle.pb_core.specs.Client.{Idle, Client, is_idle, is_announced, entry_by}
 use Rattle.pb_core.specs.Memory.{coming}
 use Rattle.pb_core.specs.MemoryParts.{entries_with, entries_in, entries_ahead, own_entries, HasEntries}
 use Rattle.pb_core.proofs.Entries.{entries_in-append}
@@ -24,10 +24,10 @@ use Rattle.pb_report.specs.declared.outcome.Outcome.{Outcome}
 use Rattle.pb_report.specs.declared.outcome.Outcome.TheVariants.{New, Kept, Old, Gap, Changed, Doubt, Left}
 use Rattle.pb_report.specs.Outcomes.{AreLines, HasEntry, IsTriedLine, Outcomes, ask_of, entry_of, is_tried, lines_of_client}
 use Rattle.pb_report.proofs.GoingOn.{HasEntriesOf, lines_over}
-use Rattle.pb_rule.specs.Opening.{IsEnded, AreEnded, HasAnswered, HasAnsweredOne, HasEnded}
-use Rattle.pb_rule.specs.Rule.{called_if, called_round, Fault, AreOfClients, fault_asks, met_if, met_by}
+use Rattle.pb_rule.specs.Opening.{IsEnded, AreEnded, OneOf, HasEnded}
+use Rattle.pb_rule.specs.Rule.{called_if, called_round, Fault, AreOfClients, fault_asks, met_if, met_by, HasAnswered, HasAskedFor}
 use Rattle.pb_rule.specs.View.{PassView}
-use Rattle.pb_rule.proofs.Members.{contains-here, contains-there, contains-none, contains-one, contains-cases, of_all}
+use Rattle.pb_rule.proofs.Members.{contains-here, contains-there, contains-none, contains-one, contains-cases, of_all, with_own}
 use Rattle.pb_run.specs.Line.{met_ask}
 use Rattle.pb_run.specs.Lists.{asks_of}
 use Rattle.pb_run.specs.Run.{is_doubt, line_in_doubt, line_ask, asks_in_doubt, AreNewRecorded, AreCharged, HasNewLine, HasRun}
@@ -51,23 +51,10 @@ kept_of test xs x is = All-contains (Contains xs) (filter test xs) x (All-filter
 
 -- Entries of a client
 
-with_client : (entries : List Entry) (entry : Entry) → Contains entries entry → Contains (entries_with entry.client entries) entry
-with_client [] entry is = absurd (contains-none entry is)
-with_client (first ∷ entries) entry is = go (with_client entries entry) (eqb first.client entry.client) refl (contains-cases first entry entries is)
-  where
-    own : first ≡ entry → eqb first.client entry.client ≡ true
-    own same = eq-eqb first.client entry.client (ap (λ (e : Entry). e.client) same)
-
-    go : (Contains entries entry → Contains (entries_with entry.client entries) entry) → (b : Bool) → eqb first.client entry.client ≡ b → (first ≡ entry) ⊎ Contains entries entry → Contains (cond b (first ∷ entries_with entry.client entries) (entries_with entry.client entries)) entry
-    go rest true is_own (inl same) = subst (Contains (first ∷ entries_with entry.client entries)) same (contains-here first (entries_with entry.client entries))
-    go rest true is_own (inr more) = contains-there first entry (entries_with entry.client entries) (rest more)
-    go rest false other (inl same) = absurd (false≢true (sym other ∙ own same))
-    go rest false other (inr more) = rest more
-
 pub in_rounds : (history : History) (entry : Entry) → HasEntry history entry → Contains (entries_in entry.client history) entry
 in_rounds [] entry has = absurd (contains-none has.round has.told)
 in_rounds (round ∷ history) entry has = elim (contains-cases round has.round history has.told) [
-  | inl same ↦ Contains-append_left (entries_with entry.client round.entries) (entries_in entry.client history) entry (with_client round.entries entry (subst (λ (r : Round). Contains r.entries entry) (sym same) has.member))
+  | inl same ↦ Contains-append_left (entries_with entry.client round.entries) (entries_in entry.client history) entry (with_own round.entries entry (subst (λ (r : Round). Contains r.entries entry) (sym same) has.member))
   | inr more ↦ Contains-append_right (entries_with entry.client round.entries) (entries_in entry.client history) entry (in_rounds history entry (record { round = has.round; told = more; member = has.member }))
 ]
 
@@ -315,6 +302,17 @@ announced-waits : (lines : List Line) (v : PassView) → (v.body.stage ≡ Idle)
 announced-waits lines v (inl idle) announced = absurd (false≢true (ap is_announced (sym idle) ∙ announced))
 announced-waits lines v (inr pending) announced = pending
 
+-- what its pass asked for has a line
+asked_line : (s : Standing) (lines : List Line) (k : ℕ) (v : PassView) → IsThroughFor s lines k v → (entry : Entry) → HasAskedFor entry v.body → IsTriedLine (lines_of_client k lines) entry
+asked_line s lines k v is entry (inl is_open) =
+    subst (IsTriedLine (lines_of_client k lines)) (sym is_open.same) (by is.so.rests)
+  where
+    by : (v.body.stage ≡ Idle) ⊎ IsPendingLine (lines_of_client k lines) v → IsTriedLine (lines_of_client k lines) (entry_by v.body.ask entry.reply)
+    by (inl idle) = absurd (false≢true (sym is_open.asks ∙ ap is_idle idle))
+    by (inr pending) = record { outcome = Doubt; line = pending.line; tried = refl }
+asked_line s lines k v is entry (inr was) =
+    record { outcome = New was.reply; line = is.so.told (record entry { reply = was.reply }) was.own; tried = refl }
+
 module _ (s : Standing) (lines : List Line) (k : ℕ) (v : PassView) (is : IsThroughFor s lines k v) (published : History) (ahead : Option Round) (list : List KeptRequest) where
   abbrev mine : List Line
   mine = lines_of_client k lines
@@ -367,17 +365,17 @@ ended_at start published ahead faults [] k d inside are = absurd (omega (arith, 
 ended_at start published ahead faults (v ∷ views) zero d inside are = are.0
 ended_at start published ahead faults (v ∷ views) (suc k) d inside are = ended_at start published ahead faults views k d (omega (arith, inside)) are.1
 
--- one of these passes was answered with a round
-record IsAnsweredAt (round : Round) (views : List PassView) (d : PassView) : Type 0 where
+-- so it is with the pass at a place
+record IsOneAt (so : Client → Type 0) (views : List PassView) (d : PassView) : Type 0 where
   place : ℕ
   inside : place < length views
-  has : HasAnswered round (slice_index_or views place d)
+  has : so (slice_index_or views place d).body
 
-answered_at : (round : Round) (views : List PassView) (d : PassView) → HasAnsweredOne round views → IsAnsweredAt round views d
-answered_at round [] d answered = absurd answered
-answered_at round (v ∷ views) d (inl here) = record { place = 0; inside = omega arith; has = here }
-answered_at round (v ∷ views) d (inr later) =
-    let at = answered_at round views d later in
+one_at : (so : Client → Type 0) (views : List PassView) (d : PassView) → OneOf so views → IsOneAt so views d
+one_at so [] d one = absurd one
+one_at so (v ∷ views) d (inl here) = record { place = 0; inside = omega arith; has = here }
+one_at so (v ∷ views) d (inr later) =
+    let at = one_at so views d later in
     record { place = suc at.place; inside = omega (arith, at.inside); has = at.has }
 
 module _ (kind : Kind) (start now : EngineView) (views : List PassView) (asks : List Ask) (list : List Outcome) (d : PassView)
@@ -512,10 +510,19 @@ module _ (kind : Kind) (start now : EngineView) (views : List PassView) (asks : 
   met_asks k inside =
       ap (λ (c : ℕ). map met_ask (met_by c ended.faults)) (sym (through k inside).client) ∙ (ap (map met_ask) (sym (end_of k inside).met) ∙ (through k inside).so.doubts)
 
+  -- what was asked for has a line that was tried
+  tried_line_of : (entry : Entry) → OneOf (HasAskedFor entry) views → IsTriedLine (zip asks list) entry
+  tried_line_of entry asked = by (one_at (HasAskedFor entry) views d asked)
+    where
+      by : IsOneAt (HasAskedFor entry) views d → IsTriedLine (zip asks list) entry
+      by at =
+          line_of_all at.place entry (asked_line start.standing (zip asks list) at.place (view at.place) (each at.place at.inside) entry at.has)
+
   charged : AreCharged start.standing (progress_of [] start) ended.calls (zip asks list)
   charged = record {
     asks = fault_asks ended.faults;
     made_for = ended.failed;
+    entries = λ failed ops call entry one. tried_line_of entry (ended.asked failed ops call entry one);
     next = ended.next_at;
     each_client = λ k. fault_asks-own start.standing.clients k ended.faults ended.clients ∙ (by k (cases_lt k start.standing.clients) ∙ sym (doubted-own k (zip asks list)));
   }
@@ -526,10 +533,10 @@ module _ (kind : Kind) (start now : EngineView) (views : List PassView) (asks : 
           ap (map met_ask) (met_by-none start.standing.clients k ended.faults past ended.clients) ∙ sym (ap asks_in_doubt (lines_none k past))
 
   -- a round that has an entry of a pass's own has that one's line
-  new_line_of : (round : Round) → HasAnsweredOne round views → HasNewLine (zip asks list) round
-  new_line_of round answered = by (answered_at round views d answered)
+  new_line_of : (round : Round) → OneOf (HasAnswered round) views → HasNewLine (zip asks list) round
+  new_line_of round answered = by (one_at (HasAnswered round) views d answered)
     where
-      by : IsAnsweredAt round views d → HasNewLine (zip asks list) round
+      by : IsOneAt (HasAnswered round) views d → HasNewLine (zip asks list) round
       by at = record {
         ask = ask_of at.has.entry;
         reply = at.has.entry.reply;

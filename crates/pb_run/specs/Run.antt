@@ -5,14 +5,14 @@ use Rattle.pb_pmem.specs.Count.{last_count}
 use Rattle.pb_pmem.specs.declared.log.LogOp.{LogOp}
 use Rattle.pb_object.specs.declared.request.Ask.{Ask}
 use Rattle.pb_object.specs.declared.request.Reply.{Reply}
-use Rattle.pb_object.specs.History.{Round, History}
+use Rattle.pb_object.specs.History.{Entry, Round, History}
 use Rattle.pb_object.specs.Standing.{Standing}
-use Rattle.pb_engine.specs.Calls.{EngineCall, Made, Progress, progress_of, AreMadeFor, settled_rounds}
+use Rattle.pb_engine.specs.Calls.{EngineCall, Made, Failed, Progress, progress_of, AreMadeFor, settled_rounds}
 use Rattle.pb_engine.specs.Good.{HasCome}
-use Rattle.pb_engine.specs.View.{EngineView}
+use Rattle.pb_engine.specs.View.{EngineView, FailedRound}
 use Rattle.pb_report.specs.declared.outcome.Outcome.{Outcome}
 use Rattle.pb_report.specs.declared.outcome.Outcome.TheVariants.{New, Doubt}
-use Rattle.pb_report.specs.Outcomes.{Outcomes, HasEntry, entry_of, is_tried}
+use Rattle.pb_report.specs.Outcomes.{Outcomes, HasEntry, IsTriedLine, entry_of, is_tried}
 use Rattle.pb_rule.specs.Rule.{AreNextAtSettling}
 use Rattle.pb_run.specs.Lists.{asks_of}
 
@@ -41,10 +41,12 @@ abbrev pub asks_in_doubt : List (Ask × Outcome) → List Ask
 asks_in_doubt lines = map line_ask (filter line_in_doubt lines)
 
 -- Each failing call was made for the request of a line in doubt, and each such line has one (a client has at most one). Where the call was for
--- a round, the round has that request; where it was a settling, the request was its client's next one on what was recorded by then
+-- a round, the round has that request, and requests alone of lines that are new or in doubt; where it was a settling, the request was its
+-- client's next one on what was recorded by then
 pub record AreCharged (s : Standing) (p : Progress) (calls : List EngineCall) (lines : List (Ask × Outcome)) : Type 0 where
   pub asks : List Ask
   pub made_for : AreMadeFor calls asks
+  pub entries : (failed : FailedRound) (ops : List LogOp) → Contains calls (Failed failed ops) → (entry : Entry) → Contains failed.round.entries entry → IsTriedLine lines entry
   pub next : AreNextAtSettling s p calls asks
   pub each_client : (client : ℕ) → asks_of client asks ≡ asks_of client (asks_in_doubt lines)
 

@@ -29,8 +29,8 @@ pub record HasHadTurn (number turn : ℕ) (published notes : List Note) : Type 0
   pub lacks : found ≢ number
   pub free : turn % 2 ≡ 0
 
--- how a try is answered, by the words that it met: its row had its number, and the turn was of the same round still; or it took the turn
--- and published a round that has its request
+-- how a try is answered, by the words that it met or published: its row had its number, and the turn was of the same round still; or it took
+-- the turn and published a round that has its request
 pub data IsDone (old new : PassView) : Type 0 where
   read_row : (from to : ℕ) → new.notes ≡ Turn from ∷ Row old.body.ask.number ∷ Turn to ∷ [] → to / 2 ≡ from / 2 → new.body.front ≡ to / 2 → new.served ≡ old.served → IsDone old new
   had_turn : (turn : ℕ) → HasHadTurn old.body.ask.number turn (Row old.body.ask.number ∷ Turn (turn + 2) ∷ []) new.notes → new.body.front ≡ (turn + 2) / 2 → Serves [] old new → IsDone old new
@@ -40,8 +40,8 @@ pub record StaysOpen (old new : PassView) : Type 0 where
   pub body : new.body ≡ record old.body { stage = Looking; front = new.body.front }
   pub front : old.body.front ≤ new.body.front
 
--- why a try finds others busy, by the words that it met: its row lacked its number while the turn was held; or the turn was free and
--- another took it first; or its row had its number and the turn was of another round then; or it took the turn, and published a round that
+-- why a try finds others busy, by the words that it met or published: its row lacked its number while the turn was held; or the turn was free
+-- and another took it first; or its row had its number and the turn was of another round then; or it took the turn, and published a round that
 -- settling found recorded and that lacks its request: it looked at nobody
 pub data IsBusy (number from to : ℕ) (new : PassView) : Type 0 where
   lacked : (found : ℕ) → new.notes ≡ Turn from ∷ Row found ∷ Turn to ∷ [] → found ≢ number → from % 2 ≡ 1 → IsBusy number from to new
