@@ -1,7 +1,7 @@
 //! The lines that are held back for the file of a device.
 ghost use Rattle.std.specs.Prelude.{◌≡◌, ◌+◌, ◌*◌, ◌⊎◌, ◌↔◌, true, OnOk, OnErr};
 ghost use Rattle.std.specs.declared.io.traits.SeekFrom.TheVariants.{Start};
-ghost use Rattle.pb_file.specs.Held.{HasGiven, HasHeld, HasLeft, IsNext, Keeps};
+ghost use Rattle.pb_file.specs.Held.{HasGiven, HasHeld, HasLeft, IsNext, Joins, Keeps};
 
 use crate::bytes::{LINE_BYTES, bytes_of, words_of};
 use crate::lazy_file::LazyFile;
@@ -20,11 +20,13 @@ const HELD_BYTES: usize = 4096;
 ///
 /// Adjacent lines are held back and leave in one write call. They leave before anything else is done with the file, and
 /// are let go only where all of them left: where a call fails before, the next one writes the same lines again.
+///
+/// Their bytes have a place of their own in memory, so that a store is small where it is passed on.
 #[derive(Drop)]
 pub(crate) struct Store<R: Files> {
     file: LazyFile<R>,
     first: u32,
-    held: ArrayVec<u8, HELD_BYTES>,
+    held: Box<ArrayVec<u8, HELD_BYTES>>,
 }
 
 impl<R: Files> Store<R> {
@@ -33,10 +35,11 @@ impl<R: Files> Store<R> {
     where
         R: Clone + Drop + AllocGlobal,
     {
+        let held = Box::new(rt.alloc(), ArrayVec::new())?;
         Ok(Store {
             file: LazyFile::new(rt, path)?,
             first: 0,
-            held: ArrayVec::new(),
+            held,
         })
     }
 
@@ -61,7 +64,8 @@ impl<R: Files> Store<R> {
     {
         self.file.get()?;
         let bytes = bytes_of(from);
-        if self.is_next(line) && self.held.try_extend_from_slice(bytes.as_slice()).is_ok() {
+        if self.joins(line) {
+            let _ = self.held.try_extend_from_slice(bytes.as_slice());
             return Ok(());
         }
         self.send()?;
@@ -105,6 +109,13 @@ impl<R: Files> Store<R> {
     {
         self.send()?;
         self.file.get()?.sync_data()
+    }
+
+    /// Whether a line comes next behind those that are held back, and there is room for it.
+    fn joins(&self, line: u32) -> bool
+        ensures { result ≡ true ↔ Joins self.now line }
+    {
+        self.is_next(line) && self.held.len() + LINE_BYTES <= HELD_BYTES
     }
 
     /// Whether a line comes next behind those that are held back, where there are any.
