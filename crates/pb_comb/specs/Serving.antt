@@ -2,7 +2,9 @@
 use Rattle.std.specs.Prelude.{◌≡◌, ◌+◌, ◌*◌, ◌<◌, List, length, All}
 use Rattle.pb_pmem.specs.declared.line.Line.{Line}
 use Rattle.pb_object.specs.declared.kind.Kind.{Kind}
+use Rattle.pb_object.specs.declared.limits.TheConstants.{MOST_CLIENTS}
 use Rattle.pb_object.specs.declared.request.Ask.{Ask}
+use Rattle.pb_object.specs.declared.request.TheConstants.{KEPT_REQUESTS}
 use Rattle.pb_object.specs.Request.{IsOperation}
 use Rattle.pb_engine.specs.Asks.{AskersRise, answered_from, state_from}
 use Rattle.pb_object.specs.Object.{State}
@@ -11,8 +13,8 @@ use Rattle.pb_engine.specs.Next.{PutsEntries}
 -- a request that the object takes, of a client whose slots a record has
 pub record IsServable (kind : Kind) (lines : List Line) (ask : Ask) : Type 0 where
   pub operation : IsOperation kind ask.op
-  pub client : ask.client < 16
-  pub room : 8 * ask.client + 8 < length lines
+  pub client : ask.client < MOST_CLIENTS
+  pub room : KEPT_REQUESTS * ask.client + KEPT_REQUESTS < length lines
 
 -- so are all of these, whose clients rise
 pub record AreServable (kind : Kind) (lines : List Line) (asks : List Ask) : Type 0 where

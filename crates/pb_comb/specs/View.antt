@@ -29,6 +29,7 @@ standing_of pair state = record {
   kept = listed pair.head.clients (kept_in_slots (lines_of pair 0));
 }
 
+-- the engine as contracts see it
 abbrev pub comb_view : PairView → State → List Ask → EngineView
 comb_view pair state asked = record {
   standing = standing_of pair state;

@@ -1,4 +1,6 @@
+//! The engine of an object with one side.
 ghost use Rattle.std.specs.Prelude.{◌≡◌, ◌+◌, ◌%◌, ◌<◌, length, drop};
+ghost use Rattle.pb_object.specs.declared.limits.TheConstants.{MOST_CLIENTS, MOST_SIZE};
 ghost use Rattle.pb_object.specs.ObjectLines.{object_line_count};
 ghost use Rattle.pb_object.specs.Standing.{side_count};
 ghost use Rattle.pb_layout.specs.Header.{record_length, slot_count};
@@ -61,12 +63,13 @@ impl<O: Object, P: Pmem> Comb<O, P> {
         size: u32,
     ) -> Result<Comb<O, P>, Refused<P>>
         requires some_clients { 1 ≤ clients }
-        requires few_clients { clients ≤ 16 }
+        requires few_clients { clients ≤ MOST_CLIENTS }
         requires some_size { 1 ≤ size }
-        requires small_size { size ≤ 1024 }
-        ensures ok { IfOk result (IsFresh (record { kind = O.KIND; clients = clients; size = size }) (P.seen device)) }
-        ensures err { IfErr result
-            (λ refused. IsFreshRefusal (record { kind = O.KIND; clients = clients; size = size }) (P.seen device) (P.seen refused.device) refused.why) }
+        requires small_size { size ≤ MOST_SIZE }
+        ensures ok { let head : Header = record { kind = O.KIND; clients = clients; size = size } in
+            IfOk result (IsFresh head (P.seen device)) }
+        ensures err { let head : Header = record { kind = O.KIND; clients = clients; size = size } in
+            IfErr result (λ refused. IsFreshRefusal head (P.seen device) (P.seen refused.device) refused.why) }
     {
         let head = Header {
             kind: O::KIND,

@@ -1,3 +1,4 @@
+//! The memory that an engine takes before it begins.
 ghost use Rattle.std.specs.Prelude.{◌≡◌, replicate, IfOk};
 ghost use Rattle.pb_pmem.specs.Lines.{zero_line};
 ghost use Rattle.pb_object.specs.Object.{start_state};

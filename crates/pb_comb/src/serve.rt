@@ -1,3 +1,4 @@
+//! Applying the requests of a round, and following them.
 ghost use Rattle.std.specs.Prelude.{◌≡◌, All, if◌then◌else◌};
 ghost use Rattle.pb_object.specs.ObjectLines.{size_of};
 ghost use Rattle.pb_object.specs.Request.{IsOperation};

@@ -1,17 +1,13 @@
 -- Requests of one round, and the round that they make.
-use Rattle.std.specs.Prelude.{◌≡◌, ◌≢◌, ℕ, ◌+◌, ◌<◌, ◌≤◌, List, [], ◌∷◌, All, option_map, unwrap_or}
+use Rattle.std.specs.Prelude.{◌≡◌, ◌≢◌, ℕ, ◌+◌, ◌<◌, ◌≤◌, List, [], ◌∷◌, All}
 use Rattle.pb_object.specs.declared.request.Ask.{Ask}
 use Rattle.pb_object.specs.declared.request.Op.{Op}
 use Rattle.pb_object.specs.declared.request.TheConstants.{LAST_NUMBER}
-use Rattle.pb_object.specs.Codes.{action_of, action_side}
+use Rattle.pb_object.specs.Codes.{action_of}
 use Rattle.pb_object.specs.History.{Entry, Round, IsOfSide}
 use Rattle.pb_object.specs.Object.{State, next_state, reply_of}
-use Rattle.pb_object.specs.Request.{IsOperation}
+use Rattle.pb_object.specs.Request.{IsOperation, side_of_op}
 use Rattle.pb_object.specs.Standing.{Standing, newest_of}
-
--- the side of an operation, 0 for what is no operation
-abbrev pub side_of_op : Op → ℕ
-side_of_op op = unwrap_or (option_map action_side (action_of op.code)) 0
 
 -- the side of requests: all are of the first one's
 abbrev pub side_asked : List Ask → ℕ

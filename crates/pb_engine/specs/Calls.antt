@@ -27,24 +27,28 @@ pub record Progress : Type 0 where
   pub sure : Bool
   pub doubt : Option FailedRound
 
+-- how far calls have come to this engine, after these rounds
 abbrev pub progress_of : History → EngineView → Progress
 progress_of rounds engine = record { rounds = rounds; sure = engine.sure; doubt = engine.doubt }
 
--- the rounds after settling: the one in doubt is one more where its index word was called
+-- the rounds after settling with this round in doubt: it is one more where its index word was called
 abbrev pub with_doubt : Bool → History → Round → History
 with_doubt true rounds round = rounds ++ round ∷ []
 with_doubt false rounds round = rounds
 
+-- the rounds after settling with this doubt
 abbrev pub settled_rounds : History → Option FailedRound → History
 settled_rounds rounds None = rounds
 settled_rounds rounds (Some failed) = with_doubt failed.called rounds failed.round
 
+-- how far calls have come after one more
 abbrev pub after_call : Progress → EngineCall → Progress
 after_call p (Made round ops) = record { rounds = p.rounds ++ round ∷ []; sure = true; doubt = None }
 after_call p (Failed failed ops) = record { rounds = p.rounds; sure = false; doubt = Some failed }
 after_call p (Settled ops) = record { rounds = settled_rounds p.rounds p.doubt; sure = true; doubt = None }
 after_call p (FailedSettling ops) = record { rounds = p.rounds; sure = false; doubt = p.doubt }
 
+-- how far calls have come after several more
 abbrev pub after_calls : Progress → List EngineCall → Progress
 after_calls p [] = p
 after_calls p (call ∷ calls) = after_calls (after_call p call) calls
@@ -57,7 +61,7 @@ pub record IsRoundOps (s : Standing) (round : Round) (ops : List LogOp) : Type 0
   pub record_is : IsNextRecordOf s round lines
   pub ops_are : ops ≡ round_ops engine round lines
 
--- .. or the first of them, up to a call of the device that failed
+-- the first operations of a round on a standing, up to a call of the device that failed
 pub record IsCutRoundOps (s : Standing) (failed : FailedRound) (ops : List LogOp) : Type 0 where
   pub engine : EngineView
   pub standing : engine.standing ≡ s
@@ -81,12 +85,14 @@ abbrev pub AreCalls : Standing → Progress → List EngineCall → Type 0
 AreCalls s p [] = Unit {0}
 AreCalls s p (call ∷ calls) = IsCall s p call × AreCalls s (after_call p call) calls
 
+-- the device operations of a call
 abbrev pub ops_of : EngineCall → List LogOp
 ops_of (Made round ops) = ops
 ops_of (Failed failed ops) = ops
 ops_of (Settled ops) = ops
 ops_of (FailedSettling ops) = ops
 
+-- the device operations of calls, one after the other
 abbrev pub all_ops : List EngineCall → List LogOp
 all_ops [] = []
 all_ops (call ∷ calls) = ops_of call ++ all_ops calls

@@ -45,7 +45,7 @@ pub record IsCovered (tale : Tale) (members : List (Option Standing)) (s : Stand
   pub decided : was_called now.doubt ≡ false → IsDecidedAfter tale members now s rounds
   pub in_doubt : (failed : FailedRound) → now.doubt ≡ Some failed → failed.called ≡ true → IsInDoubtAfter tale now.device s rounds failed.round
 
--- how many of these operations are fences, and how many are syncs
+-- how many fences there are among operations
 abbrev pub fence_count : List LogOp → ℕ
 fence_count [] = 0
 fence_count (Whole line to ∷ ops) = fence_count ops
@@ -54,6 +54,7 @@ fence_count (Back first count ∷ ops) = fence_count ops
 fence_count (Fence ∷ ops) = suc (fence_count ops)
 fence_count (Sync ∷ ops) = fence_count ops
 
+-- how many syncs there are among operations
 abbrev pub sync_count : List LogOp → ℕ
 sync_count [] = 0
 sync_count (Whole line to ∷ ops) = sync_count ops

@@ -15,10 +15,12 @@ use Rattle.pb_engine.specs.View.{KnownRecords, EngineView, nothing_known, settle
 abbrev pub stored_over : KnownRecords → List Line → KnownRecords
 stored_over known lines = record { in_use = Some lines; spare = known.in_use }
 
+-- the first side's records after a round of this side
 abbrev pub stored_on_first : EngineView → ℕ → List Line → KnownRecords
 stored_on_first engine zero lines = stored_over engine.first lines
 stored_on_first engine (suc side) lines = engine.first
 
+-- the second side's records after a round of this side
 abbrev pub stored_on_second : EngineView → ℕ → List Line → KnownRecords
 stored_on_second engine zero lines = engine.second
 stored_on_second engine (suc side) lines = stored_over engine.second lines

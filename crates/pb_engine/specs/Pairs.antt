@@ -8,6 +8,7 @@ use Rattle.pb_pair.specs.View.{SideView, if_known}
 use Rattle.pb_engine.specs.Asks.{asked_round}
 use Rattle.pb_engine.specs.View.{FailedRound, KnownRecords}
 
+-- the pair is sure
 abbrev pub is_sure : Known → Bool
 is_sure Sure = true
 is_sure Opened = false

@@ -10,7 +10,7 @@ use Rattle.pb_object.specs.Standing.{Standing, side_count, rounds_of}
 use Rattle.pb_layout.specs.Recovered.{Represents}
 use Rattle.pb_layout.specs.Represents.{header_for, record_in_use, record_of_side}
 use Rattle.pb_layout.specs.Shape.{IsHeader}
-use Rattle.pb_layout.specs.declared.header.TheConstants.{MOST_CLIENTS}
+use Rattle.pb_object.specs.declared.limits.TheConstants.{MOST_CLIENTS}
 use Rattle.pb_object.specs.KeptLists.{HasKeptLists}
 use Rattle.pb_layout.specs.declared.header.Header.{Header}
 
@@ -47,6 +47,7 @@ abbrev pub record_in_memory : EngineView → ℕ → List Line
 record_in_memory engine zero = engine.first_record
 record_in_memory engine (suc side) = engine.second_record
 
+-- nothing is known of a side's records
 abbrev pub nothing_known : KnownRecords
 nothing_known = record { in_use = None; spare = None }
 
@@ -54,7 +55,7 @@ nothing_known = record { in_use = None; spare = None }
 abbrev pub IsKnown : EngineView → ℕ → Type 0
 IsKnown engine side = (known_of engine side).in_use ≢ None
 
--- of each side that there is
+-- what the record in use of each side holds is known
 abbrev pub AreKnown : EngineView → Type 0
 AreKnown engine = (side : ℕ) → side < side_count engine.standing.kind → IsKnown engine side
 
@@ -62,7 +63,7 @@ AreKnown engine = (side : ℕ) → side < side_count engine.standing.kind → Is
 abbrev pub IsInUse : EngineView → ℕ → Type 0
 IsInUse engine side = IfSome engine.device.now (λ image. record_of_side image engine.standing side ≡ record_in_memory engine side)
 
--- so it is on each side that there is
+-- where the device tells its lines, the records in use are those that the engine has in memory
 abbrev pub AreInUse : EngineView → Type 0
 AreInUse engine = (side : ℕ) → side < side_count engine.standing.kind → IsInUse engine side
 
@@ -71,11 +72,12 @@ abbrev pub was_called : Option FailedRound → Bool
 was_called None = false
 was_called (Some failed) = failed.called
 
--- the standing where settling finds it: after the round in doubt, where its index word was called
+-- the standing after settling with this round in doubt: after that round, where its index word was called
 abbrev pub settled_by : Bool → Standing → Round → Standing
 settled_by true s round = after_round s round
 settled_by false s round = s
 
+-- the standing after settling with this doubt
 abbrev pub settled_standing : Standing → Option FailedRound → Standing
 settled_standing s None = s
 settled_standing s (Some failed) = settled_by failed.called s failed.round

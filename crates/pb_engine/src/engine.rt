@@ -1,3 +1,4 @@
+//! The trait of engines.
 ghost use Rattle.std.specs.Prelude.{◌≡◌, ℕ, ◌+◌, ◌<◌, true, false, Option, None, IfSome, IfErr, OnOk, OnErr, Ok, slice_index_or};
 ghost use Rattle.pb_object.specs.declared.kind.Kind.{Kind};
 ghost use Rattle.pb_object.specs.History.{IsOfSide};

@@ -44,7 +44,8 @@ pub fn after_a_round()
         → old.doubt ≡ None
         → (made : HasMade round old new)
         → RoundCovers round old new
-        → HasCome start new (rounds ++ round ∷ []) failures (calls ++ Made round (round_ops old round made.lines) ∷ []) }
+        → HasCome start new (rounds ++ round ∷ []) failures
+        (calls ++ Made round (round_ops old round made.lines) ∷ []) }
 {}
 
 /// One that failed is in doubt.
@@ -55,7 +56,8 @@ pub fn after_a_failed_round()
         → old.doubt ≡ None
         → (failed : HasFailedToMake round fault old new)
         → FailedRoundCovers round old new
-        → HasCome start new rounds (failures + 1) (calls ++ Failed (record { round = round; called = failed.called }) failed.device.stops.ops ∷ []) }
+        → HasCome start new rounds (failures + 1)
+        (calls ++ Failed (record { round = round; called = failed.called }) failed.device.stops.ops ∷ []) }
 {}
 
 /// Settling adds the round in doubt where its index word was called, and none else.
@@ -66,7 +68,8 @@ pub fn after_settling()
         → old.sure ≡ false
         → HasSettled old new
         → SettleCovers old new
-        → HasCome start new (settled_rounds rounds old.doubt) failures (calls ++ Settled (settle_to (header_for new.standing) new.standing) ∷ []) }
+        → HasCome start new (settled_rounds rounds old.doubt) failures
+        (calls ++ Settled (settle_to (header_for new.standing) new.standing) ∷ []) }
 {}
 
 /// Settling that failed changes nothing of that.
@@ -76,7 +79,8 @@ pub fn after_failed_settling()
         → old.sure ≡ false
         → (failed : HasFailedToSettle fault old new)
         → FailedSettleCovers old new
-        → HasCome start new rounds (failures + 1) (calls ++ FailedSettling failed.device.stops.ops ∷ []) }
+        → HasCome start new rounds (failures + 1)
+        (calls ++ FailedSettling failed.device.stops.ops ∷ []) }
 {}
 
 /// Calls after other calls come to both, where nothing was in doubt between them.

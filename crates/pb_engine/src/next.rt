@@ -1,4 +1,7 @@
+//! Memory for the record that a round stores.
 ghost use Rattle.std.specs.Prelude.{◌≡◌, ◌+◌, ◌*◌, ◌-◌, ◌<◌, ◌≤◌, length, drop, replicate, IfOk};
+ghost use Rattle.pb_object.specs.declared.limits.TheConstants.{MOST_CLIENTS};
+ghost use Rattle.pb_object.specs.declared.request.TheConstants.{KEPT_REQUESTS};
 ghost use Rattle.pb_pmem.specs.Lines.{zero_line, line_at};
 ghost use Rattle.pb_object.specs.Changes.{after_asks};
 ghost use Rattle.pb_object.specs.Object.{State};
@@ -74,9 +77,9 @@ impl NextRecord {
 
     /// Puts a request in front of its client's slots of the record in use.
     pub fn put(&mut self, before: &[Line], client: u32, kept: &Kept)
-        requires client { client < 16 }
-        requires before { 8 * client + 8 < length before.now }
-        requires room { 8 * client + 8 < length self.old }
+        requires client { client < MOST_CLIENTS }
+        requires before { KEPT_REQUESTS * client + KEPT_REQUESTS < length before.now }
+        requires room { KEPT_REQUESTS * client + KEPT_REQUESTS < length self.old }
         ensures slots { PutsInFront before.now client kept.now self.old self.new }
         ensures long { length self.new ≡ length self.old }
     {
@@ -98,7 +101,10 @@ impl NextRecord {
         requires { object_line_count O.KIND (size_of (O.state object.now)) ≤ length self.old }
         ensures others { KeepsBefore (length self.old - object_line_count O.KIND (size_of (O.state object.now))) self.old self.new }
         ensures objects { let first = length self.old - object_line_count O.KIND (size_of (O.state object.now)) in
-            (before : State) → LinesRepresent (drop first self.old) before → O.state object.now ≡ after_asks before asks.now → LinesRepresent (drop first self.new) (O.state object.now) }
+            (before : State)
+            → LinesRepresent (drop first self.old) before
+            → O.state object.now ≡ after_asks before asks.now
+            → LinesRepresent (drop first self.new) (O.state object.now) }
     {
         let first = self.lines.len() - object.lines() as usize;
         object.put_changes(asks, &mut self.lines[first..]);
@@ -108,7 +114,8 @@ impl NextRecord {
     pub fn put_object<O: Object>(&mut self, object: &O)
         requires { object_line_count O.KIND (size_of (O.state object.now)) ≤ length self.old }
         ensures others { KeepsBefore (length self.old - object_line_count O.KIND (size_of (O.state object.now))) self.old self.new }
-        ensures objects { LinesRepresent (drop (length self.old - object_line_count O.KIND (size_of (O.state object.now))) self.new) (O.state object.now) }
+        ensures objects { let first = length self.old - object_line_count O.KIND (size_of (O.state object.now)) in
+            LinesRepresent (drop first self.new) (O.state object.now) }
     {
         let first = self.lines.len() - object.lines() as usize;
         object.put_lines(&mut self.lines[first..]);

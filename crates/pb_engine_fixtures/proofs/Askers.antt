@@ -9,8 +9,9 @@ use Rattle.pb_object.specs.declared.request.Ask.{Ask}
 use Rattle.pb_object.specs.declared.request.Op.{Op}
 use Rattle.pb_object.specs.Codes.{action_of, action_side}
 use Rattle.pb_object.specs.History.{IsOfSide}
+use Rattle.pb_object.specs.Request.{side_of_op}
 use Rattle.pb_object.specs.Standing.{Standing}
-use Rattle.pb_engine.specs.Asks.{IsNextAsk, AskersRise, MayBeServed, side_asked, side_of_op}
+use Rattle.pb_engine.specs.Asks.{IsNextAsk, AskersRise, MayBeServed, side_asked}
 
 -- askers that rise, all below a client
 abbrev pub RiseTo : ℕ → List Ask → Type 0

@@ -8,6 +8,7 @@ unfoldable pub first_words : ℕ → List ℕ → List ℕ
 first_words zero words = []
 first_words (suc count) words = first_words count words ++ to_le_bytes w64 (slice_index words count)
 
+-- the bytes of a line
 abbrev pub line_bytes : Line → List ℕ
 line_bytes line = first_words 8 line.words
 

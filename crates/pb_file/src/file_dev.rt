@@ -1,3 +1,4 @@
+//! The device over a file.
 ghost use Rattle.std.specs.Prelude.{◌≡◌, ◌+◌, ◌<◌, ◌≤◌, ◌↔◌, IfOk, IsOk, OnOk, OnErr};
 ghost use Rattle.pb_pmem.specs.declared.log.LogOp.{LogOp};
 ghost use Rattle.pb_pmem.specs.Count.{HasCause};

@@ -1,4 +1,4 @@
-//! A device over a file: 2048 lines of 64 bytes, each at its place in the file.
+//! A device over a file: lines of 64 bytes, each at its place in the file.
 #![tactic(auto)]
 
 mod bytes;

@@ -1,13 +1,12 @@
 //! Opening the file of a device, and making it where it is absent.
 ghost use Rattle.std.specs.Prelude.{◌≡◌, ◌↔◌, IsOk};
+ghost use Rattle.pb_pmem.specs.declared.line.TheConstants.{DEVICE_BYTES};
 
 use crate::transfer::write_whole;
+use pb_pmem::DEVICE_BYTES;
 use std::fs::{Files, OpenFile, OpenOptions};
 use std::io;
 use std::io::ErrorKind;
-
-/// How many bytes the file of a device has: 2048 lines of 64 bytes.
-const FILE_BYTES: u64 = 131_072;
 
 /// How many zero bytes are written at once into a new file.
 const ZEROS: usize = 4096;
@@ -46,9 +45,9 @@ fn open<R: Files>(rt: &R, path: &str) -> io::Result<R::File> {
 
 /// Whether a file of so many bytes is the file of a device.
 fn check_length(bytes: u64) -> io::Result<()>
-    ensures { IsOk result ↔ (bytes ≡ 131072) }
+    ensures { IsOk result ↔ (bytes ≡ DEVICE_BYTES) }
 {
-    if bytes == FILE_BYTES {
+    if bytes == DEVICE_BYTES {
         Ok(())
     } else {
         Err(ErrorKind::InvalidData.into())
@@ -71,7 +70,7 @@ fn make_beside<R: Files>(rt: &R, path: &str) -> io::Result<()> {
         .create_new(true)
         .open(rt, path)?;
     let zeros = [0u8; ZEROS];
-    for _ in 0..FILE_BYTES / ZEROS as u64 {
+    for _ in 0..DEVICE_BYTES / ZEROS as u64 {
         write_whole(&mut file, &zeros)?;
     }
     file.sync_all()

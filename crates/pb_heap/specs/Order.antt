@@ -1,9 +1,11 @@
 -- Heap order: the children of place i are the places 2i + 1 and 2i + 2, and no item is less than its parent.
 use Rattle.std.specs.Prelude.{◌≡◌, ◌≢◌, ℕ, ◌-◌, ◌/◌, ◌<◌, ◌≤◌, List, length, slice_index}
 
+-- the parent of a place
 abbrev pub parent_of : ℕ → ℕ
 parent_of place = (place - 1) / 2
 
+-- in heap order: no item is less than its parent
 abbrev pub IsHeapOrdered : List ℕ → Type 0
 IsHeapOrdered items = (place : ℕ) → 0 < place → place < length items → slice_index items (parent_of place) ≤ slice_index items place
 

@@ -1,4 +1,6 @@
+//! A heap's object lines, taken back and refused.
 ghost use Rattle.std.specs.Prelude.{◌≡◌, ◌+◌, ◌/◌, ◌≤◌, length, take, MatchResult};
+ghost use Rattle.pb_object.specs.declared.limits.TheConstants.{MOST_SIZE};
 ghost use Rattle.pb_heap.specs.Order.{IsHeapOrdered};
 ghost use Rattle.pb_object.specs.declared.kind.Kind.TheVariants.{Heap};
 ghost use Rattle.pb_object.specs.ItemLines.{IsHeapPlace, TakesItems};
@@ -28,7 +30,7 @@ impl HoldsItems for MinHeap {
 /// Takes items as `take_items` does. Those that allowed lines hold are in heap order.
 #[tactic(auto, using(crate::proofs::LinesLemmas::taken_is_ordered))]
 pub fn take_ordered(places: &mut [u64], from: &[Line]) -> Result<usize, NotAState>
-    requires most { length places.old ≤ 1024 }
+    requires most { length places.old ≤ MOST_SIZE }
     requires count { length from.now ≡ (length places.old + 7) / 8 + 1 }
     ensures { MatchResult result
         (λ len. TakesItems IsHeapPlace places.new len from.now × IsHeapOrdered (take len places.new))

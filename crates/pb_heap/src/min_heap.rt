@@ -1,3 +1,4 @@
+//! The bounded heap.
 ghost use Rattle.std.specs.Prelude.{◌≡◌, length, drop, slice_get, refl, IfOk};
 ghost use Rattle.pb_object.specs.declared.kind.Kind.TheVariants.{Heap};
 ghost use Rattle.pb_object.specs.Heap.{after_insert, insert_reply};

@@ -1,4 +1,6 @@
+//! Heap order: an item is added, and a least one is taken away.
 ghost use Rattle.std.specs.Prelude.{◌≡◌, ◌+◌, ◌-◌, ◌*◌, ◌<◌, ◌≤◌, Some, length, take, drop, slice_get, slice_index};
+ghost use Rattle.pb_object.specs.declared.limits.TheConstants.{MOST_SIZE};
 ghost use Rattle.pb_heap.specs.Order.{IsHeapOrdered, IsOrderedButBelow, IsLeastChild};
 ghost use Rattle.pb_object.specs.Heap.{rising_of, insert_rising};
 ghost use Rattle.std.specs.List.Sorted.{IsPermutation};
@@ -18,7 +20,7 @@ pub fn add_item(places: &mut [u64], len: usize, item: u64)
 pub fn remove_least(places: &mut [u64], len: usize)
     requires some { 0 < len }
     requires within { len ≤ length places.old }
-    requires most { len ≤ 1024 }
+    requires most { len ≤ MOST_SIZE }
     requires ordered { IsHeapOrdered (take len places.old) }
     ensures ordered { IsHeapOrdered (take (len - 1) places.new) }
     ensures rising { rising_of (take (len - 1) places.new) ≡ drop 1 (rising_of (take len places.old)) }
@@ -28,7 +30,7 @@ pub fn remove_least(places: &mut [u64], len: usize)
 
 fn remove_first(items: &mut [u64])
     requires some { 0 < length items.old }
-    requires most { length items.old ≤ 1024 }
+    requires most { length items.old ≤ MOST_SIZE }
     requires ordered { IsHeapOrdered items.old }
     ensures ordered { IsHeapOrdered (take (length items.old - 1) items.new) }
     ensures rising { rising_of (take (length items.old - 1) items.new) ≡ drop 1 (rising_of items.old) }
@@ -67,7 +69,7 @@ fn sift_up(items: &mut [u64])
 
 // Moves the first item down until no item is less than its parent.
 fn sift_down(items: &mut [u64])
-    requires most { length items.old ≤ 1024 }
+    requires most { length items.old ≤ MOST_SIZE }
     requires ordered { IsOrderedButBelow items.old 0 }
     ensures ordered { IsHeapOrdered items.new }
     ensures same { IsPermutation items.old items.new }

@@ -20,7 +20,7 @@ use Rattle.pb_layout.specs.Record.{client_line_at, kept_from, kept_in_slots, num
 use Rattle.pb_layout.specs.Recovered.{Represents}
 use Rattle.pb_layout.specs.Represents.{record_of_side, newest_of_two, kept_list_by, number_at, AreApart, RegionParts, AreRecords}
 use Rattle.pb_layout.specs.declared.header.Header.{Header}
-use Rattle.pb_layout.specs.declared.header.TheConstants.{MOST_CLIENTS}
+use Rattle.pb_object.specs.declared.limits.TheConstants.{MOST_CLIENTS}
 use Rattle.pb_layout.proofs.OneRecovery.{parts, region_records}
 use Rattle.pb_layout.proofs.Records.{slot_number_few, number_sum-none, number_sum-more}
 use Rattle.pb_layout.proofs.SlotLemmas.{kept_from-none, kept_from-more, with_slot-empty, Falling, falling_after, kept_from-empty, kept_from-full, newest-kept_from, slots_fall, newest_of_two-first, newest_of_two-second, newest_of_two-newer_first, newest_of_two-newer_second, newest_of_two-at_least_first, newest_of_two-at_least_second}

@@ -29,23 +29,27 @@ abbrev pub IsFirstNamed : List Check → ℕ → Type 0
 IsFirstNamed [] line = ⊥
 IsFirstNamed (check ∷ checks) line = check.refuses line ⊎ (check.passes × IsFirstNamed checks line)
 
--- what the lines say of themselves: the header, the rounds of a side, its record in use, and the object's lines
+-- the header that the lines spell
 abbrev pub header_in : List Line → Header
 header_in image = named_header (line_at image 0)
 
+-- how many rounds of a side the lines count
 abbrev pub round_in : List Line → ℕ → ℕ
 round_in image side = word_of image (1 + side) 0
 
+-- a side's record in use, as the lines say which one that is
 abbrev pub record_in : List Line → ℕ → List Line
 record_in image side = record_in_use image (header_in image) side (round_in image side)
 
+-- the object's lines of all sides, in their records in use
 abbrev pub object_lines_in : List Line → List Line
 object_lines_in image = object_parts (header_in image) (record_in image)
 
--- the line at which a side's record in use begins, and the line of a slot in it
+-- the line at which a side's record in use begins
 abbrev pub record_place_in : List Line → ℕ → ℕ
 record_place_in image side = record_place (header_in image) side (round_in image side % 2)
 
+-- the line of a slot in a side's record in use
 abbrev pub slot_place_in : List Line → ℕ → ℕ → ℕ
 slot_place_in image side place = record_place_in image side + 1 + place
 
@@ -96,10 +100,11 @@ apart_check image = record {
   refuses = λ line. ((header_in image).kind ≡ Queue) × ((place : ℕ) × (line ≡ slot_place_in image 1 place) × IsFirstWithout (IsApart (record_in image)) (slot_count (header_in image)) place);
 }
 
--- how many items were taken from a queue, and how many wait
+-- how many items were taken from a queue
 abbrev pub taken_in : List Line → ℕ
 taken_in image = word_of (object_lines_in image) 1 0
 
+-- how many items wait in a queue
 abbrev pub waiting_in : List Line → ℕ
 waiting_in image = word_of (object_lines_in image) 0 0 - taken_in image
 

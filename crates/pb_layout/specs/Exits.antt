@@ -51,15 +51,17 @@ pub record IsExit (base : List Line) (log ops : List LogOp) (s : Standing) (hist
 abbrev pub sealed_round : Round → LoggedRound
 sealed_round round = record { round = round; backed = true; sealed = true }
 
--- the first records of a region in which nothing was asked yet: round 0, no requests, and the lines of the fresh object
+-- the first record of a side in which nothing was asked yet: round 0 and no requests
 pub record IsEmptyRecord (head : Header) (lines : List Line) : Type 0 where
   pub long : length lines ≡ record_length head
   pub round : line_at lines 0 ≡ zero_line
   pub slots : (place : ℕ) → place < slot_count head → slot_at lines place ≡ zero_line
 
+-- two records by the numbers of their sides
 abbrev pub records_of : List Line → List Line → ℕ → List Line
 records_of first second side = if side == 0 then first else second
 
+-- the first records of a region in which nothing was asked yet: no requests, and the lines of the fresh object
 pub record AreEmptyRecords (head : Header) (first second : List Line) : Type 0 where
   pub first_record : IsEmptyRecord head first
   pub second_record : 1 < side_count head.kind → IsEmptyRecord head second

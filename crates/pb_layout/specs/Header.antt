@@ -13,7 +13,8 @@ use Rattle.pb_layout.specs.Shape.{IsHeader}
 use Rattle.pb_layout.specs.declared.fault.LayoutFault.{LayoutFault}
 use Rattle.pb_layout.specs.declared.fault.LayoutFault.TheVariants.{NoMagic, BadHeader, BadRecord}
 use Rattle.pb_layout.specs.declared.header.Header.{Header}
-use Rattle.pb_layout.specs.declared.header.TheConstants.{MAGIC, VERSION, MOST_CLIENTS, MOST_SIZE}
+use Rattle.pb_layout.specs.declared.header.TheConstants.{MAGIC, VERSION}
+use Rattle.pb_object.specs.declared.limits.TheConstants.{MOST_CLIENTS, MOST_SIZE}
 
 -- how many lines of a record are slots of clients: eight for each
 abbrev pub slot_count : Header → ℕ

@@ -19,26 +19,29 @@ pub record LoggedRound : Type 0 where
   pub backed : Bool
   pub sealed : Bool
 
--- the rounds alone
+-- the round alone
 abbrev pub round_of : LoggedRound → Round
 round_of logged = logged.round
 
+-- the rounds alone, in their order
 abbrev pub rounds_in : List LoggedRound → History
 rounds_in rounds = map round_of rounds
 
--- all of these rounds are sealed, or none
+-- all of these rounds are sealed
 abbrev pub AreSealed : List LoggedRound → Type 0
 AreSealed [] = Unit {0}
 AreSealed (logged ∷ rounds) = (logged.sealed ≡ true) × AreSealed rounds
 
+-- none of these rounds is sealed
 abbrev pub AreUnsealed : List LoggedRound → Type 0
 AreUnsealed [] = Unit {0}
 AreUnsealed (logged ∷ rounds) = (logged.sealed ≡ false) × AreUnsealed rounds
 
--- a client's newest number in a record, and the entry that its slot 0 there tells
+-- a client's newest number in a record
 abbrev pub number_in : List Line → ℕ → ℕ
 number_in record_lines client = (kept_in (client_line_at record_lines client)).number
 
+-- the entry that a client's slot 0 in a record tells
 abbrev pub entry_in : List Line → ℕ → Entry
 entry_in record_lines client = record {
   client = client;
@@ -68,10 +71,11 @@ sides_in lines = side_count (header_in lines).kind
 abbrev pub raises_index : List Line → ℕ → ℕ → ℕ → Bool
 raises_index lines line word to = nat_le 1 line && nat_le line (sides_in lines) && (word == 0) && (to == word_of lines line 0 + 1)
 
--- a `Back` of a round's index line marks it, and a `Sync` seals what is marked
+-- the round after a `Back`: one of its index line marks it
 abbrev pub backed_by : ℕ → ℕ → LoggedRound → LoggedRound
 backed_by first count logged = record logged { backed = logged.backed || is_back_of (1 + logged.round.side) (Back first count) }
 
+-- the round after a `Sync`, which seals what is marked
 abbrev pub sealed_by_sync : LoggedRound → LoggedRound
 sealed_by_sync logged = record logged { sealed = logged.sealed || logged.backed }
 

@@ -24,6 +24,7 @@ pub record HasEntry (before lines : List Line) (entry : Entry) : Type 0 where
   pub newest : client_line_at lines entry.client ≡ client_line_of (kept_by entry)
   pub shifted : (slot : ℕ) → suc slot < KEPT_REQUESTS → slot_line_at lines entry.client (suc slot) ≡ slot_line_at before entry.client slot
 
+-- the entry is another client's
 abbrev pub IsOfOther : ℕ → Entry → Type 0
 IsOfOther client entry = entry.client ≢ client
 
@@ -37,7 +38,7 @@ pub record IsNextOf (records : ℕ → List Line) (s : Standing) (round : Round)
   pub others : (client slot : ℕ) → client < s.clients → slot < KEPT_REQUESTS → All (IsOfOther client) round.entries → slot_line_at lines client slot ≡ slot_line_at (records round.side) client slot
   pub state : LinesRepresent (object_parts (header_for s) (with_record records round.side lines)) (after_round s round).state
 
--- .. in a region that represents s
+-- these lines are what a round makes of its side's record in use, in a region that represents s
 abbrev pub IsNextRecord : List Line → Standing → Round → List Line → Type 0
 IsNextRecord image s round lines = IsNextOf (record_of_side image s) s round lines
 
@@ -56,7 +57,7 @@ AddedCellsRepresent image head from (Rising size items) = Unit {0}
 AddedCellsRepresent image head from (Waits size queue) =
     (place : ℕ) → place < length queue.items → from ≤ queue.taken + place → line_at image (cell_place head (queue.taken + place)) ≡ cell_line_of (queue.taken + place) (slice_index queue.items place)
 
--- .. and these cells are written back where the log wrote them
+-- the cells of the waiting items that were put from a position on are written back where the log wrote them
 abbrev pub AreBacked : List LogOp → Header → ℕ → State → Type 0
 AreBacked log head from (Registers registers) = Unit {0}
 AreBacked log head from (Items size items) = Unit {0}

@@ -19,9 +19,10 @@ HasNumbersOnce history =
     → first.number ≡ second.number
     → a ≡ b
 
--- the newest number of kept requests, and the sum of all clients'
+-- the newest number of kept requests
 abbrev pub number_of : List Kept → ℕ
 number_of kept = (newest kept).number
 
+-- the sum of all clients' newest numbers
 abbrev pub numbers_of : Standing → ℕ
 numbers_of s = sum_by number_of s.kept

@@ -19,10 +19,11 @@ count_line_of count = line_of count 0 0 0 0 0 0 0
 abbrev pub IsClientLine : Kind → ℕ → Line → Type 0
 IsClientLine kind side line = IsKept kind side (kept_in line)
 
--- the line of a client's slot in a record; its slot 0 has its newest request
+-- the line of a client's slot in a record
 abbrev pub slot_line_at : List Line → ℕ → ℕ → Line
 slot_line_at lines client slot = line_at lines (1 + (KEPT_REQUESTS * client + slot))
 
+-- the line of a client's slot 0 in a record, which has its newest request
 abbrev pub client_line_at : List Line → ℕ → Line
 client_line_at lines client = slot_line_at lines client 0
 

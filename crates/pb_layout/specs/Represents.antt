@@ -39,6 +39,7 @@ object_parts_by Stack head records = object_part head (records 0)
 object_parts_by Heap head records = object_part head (records 0)
 object_parts_by Queue head records = object_part head (records 0) ++ object_part head (records 1)
 
+-- the object lines of all sides, by the record of each side
 abbrev pub object_parts : Header → (ℕ → List Line) → List Line
 object_parts head records = object_parts_by head.kind head records
 
@@ -58,6 +59,7 @@ kept_list_by Stack records client = kept_in_slots (records 0) client
 kept_list_by Heap records client = kept_in_slots (records 0) client
 kept_list_by Queue records client = newest_of_two KEPT_REQUESTS (kept_in_slots (records 0) client) (kept_in_slots (records 1) client)
 
+-- the kept requests of a client of a region, the newest first
 abbrev pub kept_list : Header → (ℕ → List Line) → ℕ → List Kept
 kept_list head records client = kept_list_by head.kind records client
 

@@ -1,7 +1,7 @@
 -- What a region holds, as its header says it.
 use Rattle.std.specs.Prelude.{ℕ, ◌≤◌}
 use Rattle.pb_object.specs.declared.kind.Kind.{Kind}
-use Rattle.pb_layout.specs.declared.header.TheConstants.{MOST_CLIENTS, MOST_SIZE}
+use Rattle.pb_object.specs.declared.limits.TheConstants.{MOST_CLIENTS, MOST_SIZE}
 
 -- the kind of the object, how many clients have slots, and the object's size
 pub record Shape : Type 0 where

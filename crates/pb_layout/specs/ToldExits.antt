@@ -31,6 +31,7 @@ pub record IsSealedAfter (tale : Tale) (new : Device) (s : Standing) (rounds : H
 abbrev pub contents_of : Tale → List Line
 contents_of tale = contents tale.base tale.log
 
+-- a device that tells its log is ready with these members
 abbrev pub IsReadyWith : List (Option Standing) → Tale → Type 0
 IsReadyWith members tale = IsReady tale.base tale.log members
 

@@ -1,10 +1,11 @@
+//! The header of a region: line 0, written, read and refused.
 ghost use Rattle.std.specs.Prelude.{◌≡◌, IfOk, IfErr};
 ghost use Rattle.pb_layout.specs.Header.{header_line_of, IsHeaderFault};
 ghost use Rattle.pb_layout.specs.Shape.{IsHeader};
 
 use crate::fault::LayoutFault;
 use crate::region::{old_first_record, old_record_len};
-use pb_object::Kind;
+use pb_object::{Kind, MOST_CLIENTS, MOST_SIZE};
 use pb_pmem::Line;
 use std::marker::Model;
 
@@ -13,12 +14,6 @@ pub const MAGIC: u64 = 0x3130_424D_4F43_4250;
 
 /// The version of the format.
 pub const VERSION: u64 = 2;
-
-/// How many clients a region has at most.
-pub const MOST_CLIENTS: u32 = 16;
-
-/// The greatest size of an object.
-pub const MOST_SIZE: u32 = 1024;
 
 /// What a region holds: the kind of its object, how many clients have slots in it, and the object's size.
 ///

@@ -17,7 +17,7 @@ ghost use Rattle.pb_layout.specs.Ready.{ImageRepresents, IsAllowed, IsReady};
 ghost use Rattle.pb_layout.specs.Record.{number_sum};
 ghost use Rattle.pb_layout.specs.Recovered.{Represents};
 ghost use Rattle.pb_layout.specs.Represents.{record_of_side};
-ghost use Rattle.pb_layout.specs.declared.header.TheConstants.{MOST_CLIENTS};
+ghost use Rattle.pb_object.specs.declared.limits.TheConstants.{MOST_CLIENTS};
 ghost use Rattle.pb_layout.specs.HistoryByPlaces.{TellsByPlaces};
 
 use crate::cells::{cell, cell_of};

@@ -13,7 +13,7 @@ mod slots;
 pub use cells::{cell, cell_of};
 pub use client::{client_line, client_of};
 pub use fault::LayoutFault;
-pub use header::{Header, MAGIC, MOST_CLIENTS, MOST_SIZE, VERSION, header_line, header_of};
+pub use header::{Header, MAGIC, VERSION, header_line, header_of};
 pub use record::{count_line, record_of};
 pub use region::{cell_line, first_record, record_len, record_line};
 pub use slots::{kept_in_slot, kept_of_both, put_in_front};

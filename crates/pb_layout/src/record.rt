@@ -1,6 +1,7 @@
 //! A record's own lines: the line of its round and the slots of its clients.
 ghost use Rattle.std.specs.Prelude.{◌≡◌, ◌↔◌, IsTrue, ◌+◌, ◌*◌, ◌<◌, ◌≤◌, OnOk, IfErr, MatchOption, length};
 ghost use Rattle.pb_pmem.specs.Lines.{line_at};
+ghost use Rattle.pb_object.specs.declared.limits.TheConstants.{MOST_CLIENTS};
 ghost use Rattle.pb_layout.specs.Shape.{IsHeader};
 ghost use Rattle.pb_layout.specs.Header.{record_length};
 ghost use Rattle.pb_layout.specs.Record.{count_line_of, number_sum, Falls, IsSlot, AreSlots, AreSmall, IsFirstWithout, IsRecord, IsRecordFault};
@@ -65,7 +66,7 @@ fn judge_slots(head: &Header, side: u32, round: u64, lines: &[Line]) -> Result<(
 /// The place of the first slot that the format refuses, of so many.
 fn first_bad_slot(kind: Kind, side: u32, lines: &[Line], count: usize) -> Option<u32>
     requires room { 1 + count ≤ length lines.now }
-    requires few { count ≤ 128 }
+    requires few { count ≤ KEPT_REQUESTS * MOST_CLIENTS }
     ensures { MatchOption result (AreSlots kind side lines.now count)
         (IsFirstWithout (IsSlot kind side lines.now) count) }
 {
@@ -95,8 +96,8 @@ fn falls(lines: &[Line], place: usize) -> bool
 
 /// The sum of the newest numbers of so many clients.
 fn sum_numbers(lines: &[Line], clients: usize) -> u64
-    requires few { clients ≤ 16 }
-    requires room { 8 * clients < length lines.now }
+    requires few { clients ≤ MOST_CLIENTS }
+    requires room { KEPT_REQUESTS * clients < length lines.now }
     requires small { AreSmall lines.now clients }
     ensures { result ≡ number_sum lines.now clients }
 {

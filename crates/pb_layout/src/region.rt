@@ -41,7 +41,7 @@ fn object_lines(head: &Header) -> u32
 pub fn first_record(head: &Header) -> u32
     ensures { result ≡ first_record_line head.now }
 {
-    old_first_record(head) + 2 * sides(head.kind) * old_record_len(head)
+    old_first_record(head) + 2 * head.kind.sides() * old_record_len(head)
 }
 
 /// The line at which the records of the first version begin: after the header and the round numbers, and after a queue's cells.
@@ -53,18 +53,6 @@ pub fn old_first_record(head: &Header) -> u32
         Kind::Stack => 3,
         Kind::Heap => 3,
         Kind::Queue => 3 + head.size,
-    }
-}
-
-/// How many sides an object has: a queue's puts and takes have records of their own.
-fn sides(kind: Kind) -> u32
-    ensures { result ≡ side_count kind }
-{
-    match kind {
-        Kind::Map => 1,
-        Kind::Stack => 1,
-        Kind::Heap => 1,
-        Kind::Queue => 2,
     }
 }
 

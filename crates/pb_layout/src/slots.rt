@@ -1,5 +1,6 @@
 //! The slots of a client in a record: its last recorded requests, the newest first.
 ghost use Rattle.std.specs.Prelude.{◌≡◌, ◌+◌, ◌*◌, ◌<◌, length, slice_index_or};
+ghost use Rattle.pb_object.specs.declared.limits.TheConstants.{MOST_CLIENTS};
 ghost use Rattle.pb_object.specs.declared.kind.Kind.TheVariants.{Queue};
 ghost use Rattle.pb_object.specs.Request.{none_kept};
 ghost use Rattle.pb_layout.specs.ClientLine.{kept_in};
@@ -15,9 +16,9 @@ use pb_pmem::Line;
 ///
 /// The client's slots are lines 1 + 8 c to 8 + 8 c, where c is its number. They are copied as they are, and other lines stay.
 pub fn put_in_front(before: &[Line], client: u32, kept: &Kept, lines: &mut [Line])
-    requires client { client < 16 }
-    requires before { 8 * client + 8 < length before.now }
-    requires room { 8 * client + 8 < length lines.old }
+    requires client { client < MOST_CLIENTS }
+    requires before { KEPT_REQUESTS * client + KEPT_REQUESTS < length before.now }
+    requires room { KEPT_REQUESTS * client + KEPT_REQUESTS < length lines.old }
     ensures { PutsInFront before.now client kept.now lines.old lines.new }
 {
     let first = 1 + (KEPT_REQUESTS * client) as usize;
@@ -29,9 +30,9 @@ pub fn put_in_front(before: &[Line], client: u32, kept: &Kept, lines: &mut [Line
 
 /// The request in a client's slot. Number 0 means that the slot is empty.
 pub fn kept_in_slot(lines: &[Line], client: u32, slot: u32) -> Kept
-    requires client { client < 16 }
+    requires client { client < MOST_CLIENTS }
     requires slot { slot < KEPT_REQUESTS }
-    requires room { 8 * client + 8 < length lines.now }
+    requires room { KEPT_REQUESTS * client + KEPT_REQUESTS < length lines.now }
     ensures { result ≡ kept_in (slot_line_at lines.now client slot) }
 {
     kept_of_line(&lines[1 + (KEPT_REQUESTS * client + slot) as usize])
@@ -41,10 +42,10 @@ pub fn kept_in_slot(lines: &[Line], client: u32, slot: u32) -> Kept
 ///
 /// Number 0 means that there are no more.
 pub fn kept_of_both(puts: &[Line], takes: &[Line], client: u32, place: u32) -> Kept
-    requires client { client < 16 }
+    requires client { client < MOST_CLIENTS }
     requires place { place < KEPT_REQUESTS }
-    requires puts_room { 8 * client + 8 < length puts.now }
-    requires takes_room { 8 * client + 8 < length takes.now }
+    requires puts_room { KEPT_REQUESTS * client + KEPT_REQUESTS < length puts.now }
+    requires takes_room { KEPT_REQUESTS * client + KEPT_REQUESTS < length takes.now }
     requires puts { AreClientSlots Queue 0 puts.now client }
     requires takes { AreClientSlots Queue 1 takes.now client }
     ensures { let newest = newest_of_two KEPT_REQUESTS (kept_in_slots puts.now client) (kept_in_slots takes.now client) in

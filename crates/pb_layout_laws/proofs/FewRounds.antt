@@ -13,7 +13,7 @@ use Rattle.pb_layout.specs.Once.{number_of}
 use Rattle.pb_layout.specs.Record.{number_sum, AreSmall}
 use Rattle.pb_layout.specs.Recovered.{Represents}
 use Rattle.pb_layout.specs.Represents.{header_for, record_of_side, AreRecords}
-use Rattle.pb_layout.specs.declared.header.TheConstants.{MOST_CLIENTS}
+use Rattle.pb_object.specs.declared.limits.TheConstants.{MOST_CLIENTS}
 use Rattle.pb_layout.proofs.LegalHistories.{KeepsAll, after_entries-keeps, some-long}
 use Rattle.pb_layout.proofs.OneRecovery.{parts, region_records}
 use Rattle.pb_layout.proofs.Records.{are_small, number_sum-none, number_sum-more}

@@ -8,7 +8,7 @@ ghost use Rattle.pb_object.specs.declared.request.TheConstants.{LAST_NUMBER};
 ghost use Rattle.pb_object.specs.History.{History, IsLegal};
 ghost use Rattle.pb_object.specs.Standing.{Standing, rounds_of};
 ghost use Rattle.pb_layout.specs.declared.header.Header.{Header};
-ghost use Rattle.pb_layout.specs.declared.header.TheConstants.{MOST_CLIENTS};
+ghost use Rattle.pb_object.specs.declared.limits.TheConstants.{MOST_CLIENTS};
 ghost use Rattle.pb_layout.specs.Damage.{IsFirstNamed, region_checks};
 ghost use Rattle.pb_layout.specs.Shape.{IsHeader};
 ghost use Rattle.pb_layout.specs.Ready.{IsReady};

@@ -1,4 +1,6 @@
+//! A map's object lines, written, taken back and refused.
 ghost use Rattle.std.specs.Prelude.{◌≡◌, ◌≢◌, ℕ, ◌+◌, ◌*◌, ◌/◌, ◌<◌, ◌≤◌, ◌↔◌, length, IsTrue, MatchOption, MatchResult};
+ghost use Rattle.pb_object.specs.declared.limits.TheConstants.{MOST_SIZE};
 ghost use Rattle.pb_map.specs.Registers.{AreRegisters, BringsUpToDate};
 ghost use Rattle.pb_object.specs.Map.{register_at};
 ghost use Rattle.pb_object.specs.MapLines.{register_in, IsRegisterAt, IsMapLine};
@@ -52,7 +54,7 @@ fn register_or_empty(registers: &[Register], key: usize) -> Register
 
 /// Takes the registers that the lines represent, or names the first line that the format refuses and takes none.
 pub fn take_registers(registers: &mut [Register], from: &[Line]) -> Result<(), NotAState>
-    requires most { length registers.old ≤ 1024 }
+    requires most { length registers.old ≤ MOST_SIZE }
     requires count { length from.now ≡ (length registers.old + 3) / 4 }
     ensures { MatchResult result
         (λ _. LinesRepresent from.now (Registers registers.new))
@@ -68,7 +70,7 @@ pub fn take_registers(registers: &mut [Register], from: &[Line]) -> Result<(), N
 }
 
 fn first_refused(size: usize, from: &[Line]) -> Option<u32>
-    requires { length from.now ≤ 1024 }
+    requires { length from.now ≤ MOST_SIZE }
     ensures { MatchOption result
         ((line : ℕ) → line < length from.now → IsMapLine size from.now line)
         (λ line. IsFirstRefused Kind.Map size from.now line) }

@@ -1,3 +1,4 @@
+//! The map of registers.
 ghost use Rattle.std.specs.Prelude.{◌≡◌, ◌<◌, length, refl};
 ghost use Rattle.pb_object.specs.declared.kind.Kind.TheVariants.{Map};
 ghost use Rattle.pb_object.specs.Map.{register_at};

@@ -19,3 +19,10 @@ one_side Map other = refl
 one_side Stack other = refl
 one_side Heap other = refl
 one_side Queue other = absurd (other refl)
+
+-- a kind that hasn't two sides has one
+pub not_two_sides : (kind : Kind) → side_count kind ≢ 2 → side_count kind ≡ 1
+not_two_sides Map other = refl
+not_two_sides Stack other = refl
+not_two_sides Heap other = refl
+not_two_sides Queue other = absurd (other refl)

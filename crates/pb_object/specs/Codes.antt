@@ -8,12 +8,14 @@ use Rattle.pb_object.specs.declared.codes.Action.TheVariants.{Get, Put, Cas, Pus
 use Rattle.pb_object.specs.declared.codes.Answer.{Answer}
 use Rattle.pb_object.specs.declared.codes.Answer.TheVariants.{Is, Was, Stale, NoKey, Worn, Depth, Full, Item, Empty, Size, At}
 
+-- the number that stands for a kind in a header
 abbrev pub kind_code : Kind → ℕ
 kind_code Map = 1
 kind_code Stack = 2
 kind_code Heap = 3
 kind_code Queue = 4
 
+-- the kind that a number stands for, if there is one
 abbrev pub kind_of_code : ℕ → Option Kind
 kind_of_code code =
     if code == 1 then Some Map else
@@ -21,12 +23,14 @@ kind_of_code code =
     (if code == 3 then Some Heap else
     (if code == 4 then Some Queue else None)))
 
+-- the word for a kind
 abbrev pub kind_word : Kind → List ℕ
 kind_word Map = codes "map"
 kind_word Stack = codes "stack"
 kind_word Heap = codes "heap"
 kind_word Queue = codes "queue"
 
+-- the code of an action
 abbrev pub action_code : Action → ℕ
 action_code Get = 1
 action_code Put = 2
@@ -55,6 +59,7 @@ action_of code =
     (if code == 10 then Some QueuePut else
     (if code == 11 then Some QueueTake else None))))))))))
 
+-- the kind of object that an action is for
 abbrev pub action_kind : Action → Kind
 action_kind Get = Map
 action_kind Put = Map
@@ -87,6 +92,7 @@ argument_count Min = 0
 argument_count QueuePut = 1
 argument_count QueueTake = 0
 
+-- the word of an action in a script
 abbrev pub action_word : Action → List ℕ
 action_word Get = codes "get"
 action_word Put = codes "put"
@@ -100,6 +106,7 @@ action_word Min = codes "min"
 action_word QueuePut = codes "put"
 action_word QueueTake = codes "take"
 
+-- the code of an answer
 abbrev pub answer_code : Answer → ℕ
 answer_code Is = 1
 answer_code Was = 2
@@ -128,6 +135,7 @@ answer_of code =
     (if code == 10 then Some Size else
     (if code == 11 then Some At else None))))))))))
 
+-- the word of an answer in an outcome line
 abbrev pub answer_word : Answer → List ℕ
 answer_word Is = codes "is"
 answer_word Was = codes "was"

@@ -19,26 +19,31 @@ abbrev pub rising_of : List ℕ → List ℕ
 rising_of [] = []
 rising_of (item ∷ items) = insert_rising item (rising_of items)
 
+-- an insert is answered by the length now, or that there is no room
 abbrev pub insert_reply : ℕ → List ℕ → Reply
 insert_reply size items = if nat_lt (length items) size then reply Size (length items + 1) 0 else reply Full 0 0
 
+-- the rising items after an insert that was answered so
 abbrev pub after_insert : ℕ → List ℕ → ℕ → List ℕ
 after_insert size items item = if nat_lt (length items) size then insert_rising item items else items
 
+-- the reply of a heap to this action
 abbrev pub heap_reply_by : Option Action → ℕ → List ℕ → Op → Reply
 heap_reply_by (Some Insert) size items op = insert_reply size items
 heap_reply_by (Some RemoveMin) size items op = item_reply (slice_get items 0)
 heap_reply_by (Some Min) size items op = item_reply (slice_get items 0)
 heap_reply_by _ size items op = no_reply
 
--- taking a least item away drops the first: an equal second one stays
+-- the rising items after this action: taking a least one away drops the first, and an equal second one stays
 abbrev pub next_rising_by : Option Action → ℕ → List ℕ → Op → List ℕ
 next_rising_by (Some Insert) size items op = after_insert size items op.a
 next_rising_by (Some RemoveMin) size items op = drop 1 items
 next_rising_by _ size items op = items
 
+-- the reply of a heap to an operation
 abbrev pub heap_reply : ℕ → List ℕ → Op → Reply
 heap_reply size items op = heap_reply_by (action_of op.code) size items op
 
+-- the rising items after an operation
 abbrev pub next_rising : ℕ → List ℕ → Op → List ℕ
 next_rising size items op = next_rising_by (action_of op.code) size items op

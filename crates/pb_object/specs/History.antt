@@ -21,6 +21,7 @@ pub record Round : Type 0 where
   pub side : ℕ
   pub entries : List Entry
 
+-- rounds, the earliest first
 abbrev pub History : Type 0
 History = List Round
 
@@ -32,6 +33,7 @@ kept_by entry = record { number = entry.number; op = entry.op; reply = entry.rep
 abbrev pub after_entry : Standing → Entry → Standing
 after_entry s entry = record s { state = next_state s.state entry.op; kept = slice_set s.kept entry.client (keep (kept_by entry) (kept_list_of s entry.client)) }
 
+-- the standing after entries, one after the other
 abbrev pub after_entries : Standing → List Entry → Standing
 after_entries s [] = s
 after_entries s (entry ∷ entries) = after_entries (after_entry s entry) entries
@@ -40,6 +42,7 @@ after_entries s (entry ∷ entries) = after_entries (after_entry s entry) entrie
 abbrev pub count_round : ℕ → Standing → Standing
 count_round side s = record s { rounds = slice_set s.rounds side (rounds_of s side + 1) }
 
+-- the standing after a round
 abbrev pub after_round : Standing → Round → Standing
 after_round s round = count_round round.side (after_entries s round.entries)
 

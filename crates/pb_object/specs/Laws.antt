@@ -54,12 +54,13 @@ ItemsComeOutInOrder size queue puts take =
     replies_to (after_operations (Waits size queue) puts) (replicate (length queue.items + length puts) take)
     ≡ item_replies queue.taken (queue.items ++ map (λ (put : Op). put.a) puts)
 
--- a client's requests in entries and in a history, the newest first, in front of those before
+-- a client's requests in entries, the newest first, in front of those before
 abbrev pub requests_in : ℕ → List Entry → List Kept → List Kept
 requests_in client [] before = before
 requests_in client (entry ∷ entries) before =
     requests_in client entries (if entry.client == client then kept_by entry ∷ before else before)
 
+-- a client's requests in a history, the newest first, in front of those before
 abbrev pub requests_of : ℕ → History → List Kept → List Kept
 requests_of client [] before = before
 requests_of client (round ∷ history) before = requests_of client history (requests_in client round.entries before)

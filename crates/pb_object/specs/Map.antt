@@ -17,9 +17,11 @@ Register = MapRegister
 abbrev pub last_version : ℕ
 last_version = 4611686018427387904
 
+-- a register that was never written
 abbrev pub empty_register : Register
 empty_register = record { value = 0; version = 0 }
 
+-- the register of a key; past the end an empty one
 abbrev pub register_at : List Register → ℕ → Register
 register_at registers key = slice_index_or registers key empty_register
 
@@ -41,17 +43,18 @@ register_reply (Some Cas) register op =
     if register.version == op.b then write_reply register else reply Stale register.value register.version
 register_reply _ register op = no_reply
 
--- what an operation writes
+-- the value that an action writes
 abbrev pub written : Option Action → Op → ℕ
 written (Some Put) op = op.b
 written (Some Cas) op = op.c
 written _ op = 0
 
+-- the reply of a map to an operation
 abbrev pub map_reply : List Register → Op → Reply
 map_reply registers op =
     if nat_lt op.a (length registers) then register_reply (action_of op.code) (register_at registers op.a) op else reply NoKey 0 0
 
--- where the reply is `was` the register has the new value and the next version; otherwise nothing changes
+-- the registers after an operation: where the reply is `was` the register has the new value and the next version; otherwise nothing changes
 abbrev pub next_registers : List Register → Op → List Register
 next_registers registers op =
     if (map_reply registers op).code == answer_code Was

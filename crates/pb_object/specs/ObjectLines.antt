@@ -42,12 +42,14 @@ pub record IsFirstRefused (kind : Kind) (size : ℕ) (lines : List Line) (line :
   pub before : (earlier : ℕ) → earlier < line → IsAllowedLine kind size lines earlier
   pub refused : ¬ IsAllowedLine kind size lines line
 
+-- the kind of a state
 abbrev pub kind_of : State → Kind
 kind_of (Registers registers) = Map
 kind_of (Items size items) = Stack
 kind_of (Rising size items) = Heap
 kind_of (Waits size queue) = Queue
 
+-- the size of a state
 abbrev pub size_of : State → ℕ
 size_of (Registers registers) = length registers
 size_of (Items size items) = size

@@ -30,12 +30,14 @@ abbrev pub take_reply : ℕ → List ℕ → Reply
 take_reply taken [] = reply Empty 0 0
 take_reply taken (item ∷ items) = reply Item item taken
 
+-- a put is answered by its position, or that there is no room, or that the queue is worn
 abbrev pub put_reply : ℕ → Waiting → Reply
 put_reply size queue =
     if nat_lt (length queue.items) size
     then (if nat_lt (tail_of queue) last_position then reply At (tail_of queue) 0 else reply Worn 0 0)
     else reply Full 0 0
 
+-- the reply of a queue to this action
 abbrev pub queue_reply_by : Option Action → ℕ → Waiting → Op → Reply
 queue_reply_by (Some QueuePut) size queue op = put_reply size queue
 queue_reply_by (Some QueueTake) size queue op = take_reply queue.taken queue.items
@@ -53,13 +55,16 @@ after_put size queue item =
     then (if nat_lt (tail_of queue) last_position then record queue { items = queue.items ++ item ∷ [] } else queue)
     else queue
 
+-- the queue after this action
 abbrev pub next_waiting_by : Option Action → ℕ → Waiting → Op → Waiting
 next_waiting_by (Some QueuePut) size queue op = after_put size queue op.a
 next_waiting_by (Some QueueTake) size queue op = after_take queue.taken queue.items
 next_waiting_by _ size queue op = queue
 
+-- the reply of a queue to an operation
 abbrev pub queue_reply : ℕ → Waiting → Op → Reply
 queue_reply size queue op = queue_reply_by (action_of op.code) size queue op
 
+-- the queue after an operation
 abbrev pub next_waiting : ℕ → Waiting → Op → Waiting
 next_waiting size queue op = next_waiting_by (action_of op.code) size queue op

@@ -1,11 +1,11 @@
 -- Operations and replies.
-use Rattle.std.specs.Prelude.{◌≡◌, ℕ, ◌<◌, IsSomeAnd}
+use Rattle.std.specs.Prelude.{◌≡◌, ℕ, ◌<◌, IsSomeAnd, option_map, unwrap_or}
 use Rattle.pb_object.specs.declared.kind.Kind.{Kind}
 use Rattle.pb_object.specs.declared.codes.Answer.{Answer}
 use Rattle.pb_object.specs.declared.request.Op.{Op}
 use Rattle.pb_object.specs.declared.request.Reply.{Reply}
 use Rattle.pb_object.specs.declared.request.Kept.{Kept}
-use Rattle.pb_object.specs.Codes.{action_of, action_kind, argument_count, answer_code}
+use Rattle.pb_object.specs.Codes.{action_of, action_kind, action_side, argument_count, answer_code}
 
 -- the arguments after the first so many are 0
 pub record LeavesUnusedZero (used : ℕ) (op : Op) : Type 0 where
@@ -22,6 +22,10 @@ pub record LeavesReplyZero (used : ℕ) (reply : Reply) : Type 0 where
 abbrev pub IsOperation : Kind → Op → Type 0
 IsOperation kind op = IsSomeAnd (action_of op.code) (λ action. (action_kind action ≡ kind) × LeavesUnusedZero (argument_count action) op)
 
+-- the side of an operation, 0 for what is no operation
+abbrev pub side_of_op : Op → ℕ
+side_of_op op = unwrap_or (option_map action_side (action_of op.code)) 0
+
 -- the reply that says this
 abbrev pub reply : Answer → ℕ → ℕ → Reply
 reply answer value extra = record { code = answer_code answer; value = value; extra = extra }
@@ -30,6 +34,7 @@ reply answer value extra = record { code = answer_code answer; value = value; ex
 abbrev pub no_reply : Reply
 no_reply = record { code = 0; value = 0; extra = 0 }
 
+-- the operation that asks for nothing
 abbrev pub no_op : Op
 no_op = record { code = 0; a = 0; b = 0; c = 0 }
 

@@ -17,7 +17,7 @@ pub record Standing : Type 0 where
   pub state : State
   pub kept : List (List Kept)
 
--- the queue's puts and takes are sides of their own
+-- how many sides an object has: a queue's puts and takes are sides of their own
 abbrev pub side_count : Kind → ℕ
 side_count Map = 1
 side_count Stack = 1

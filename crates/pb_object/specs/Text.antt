@@ -11,6 +11,7 @@ abbrev pub spaced : List ℕ → List ℕ
 spaced [] = []
 spaced (n ∷ ns) = codes " " ++ (decimal n ++ spaced ns)
 
+-- an operation that asks for this action, in its script form
 abbrev pub op_text_by : Option Action → Op → List ℕ
 op_text_by (Some action) op = action_word action ++ spaced (take (argument_count action) (op.a ∷ op.b ∷ op.c ∷ []))
 op_text_by None op = []
@@ -19,6 +20,7 @@ op_text_by None op = []
 abbrev pub op_text : Op → List ℕ
 op_text op = op_text_by (action_of op.code) op
 
+-- a reply to this action that says this, as an outcome line spells it
 abbrev pub reply_text_by : Option Action → Option Answer → Reply → List ℕ
 reply_text_by (Some action) (Some answer) reply = answer_word answer ++ spaced (take (value_count action answer) (reply.value ∷ reply.extra ∷ []))
 reply_text_by _ _ reply = []

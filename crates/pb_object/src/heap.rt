@@ -1,3 +1,4 @@
+//! A heap's plain state: its items, rising.
 ghost use Rattle.std.specs.Prelude.{◌≡◌, ◌≤◌, length, drop, slice_get, IfOk, OnOk, OnErr};
 ghost use Rattle.std.specs.List.{insert};
 ghost use Rattle.pb_object.specs.Heap.{heap_reply, next_rising, insert_rising};

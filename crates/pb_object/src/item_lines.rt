@@ -1,6 +1,8 @@
+//! The lines of a stack or a heap, taken back and refused.
 ghost use Rattle.std.specs.Prelude.{◌≡◌, ℕ, ◌+◌, ◌/◌, ◌<◌, ◌≤◌, ◌↔◌, List, length, IsTrue, MatchOption, MatchResult};
 ghost use Rattle.pb_pmem.specs.declared.line.Line.{Line};
 ghost use Rattle.pb_object.specs.declared.kind.Kind.{Kind};
+ghost use Rattle.pb_object.specs.declared.limits.TheConstants.{MOST_SIZE};
 ghost use Rattle.pb_object.specs.ItemLines.{IsItemLine, TakesItems};
 ghost use Rattle.pb_object.specs.ObjectLines.{IsAllowedLine, IsFirstRefused};
 
@@ -27,7 +29,7 @@ pub trait HoldsItems {
 /// Reads the items that the lines hold into the first places and answers how many there are,
 /// or names the first line that the format refuses and leaves the places.
 pub fn take_items<O: HoldsItems>(places: &mut [u64], from: &[Line]) -> Result<usize, NotAState>
-    requires most { length places.old ≤ 1024 }
+    requires most { length places.old ≤ MOST_SIZE }
     requires count { length from.now ≡ (length places.old + 7) / 8 + 1 }
     ensures { MatchResult result (λ count. TakesItems O.IsPlace places.new count from.now)
         (λ refused. IsFirstRefused O.kind (length places.old) from.now refused.line × (places.new ≡ places.old)) }
@@ -41,7 +43,7 @@ pub fn take_items<O: HoldsItems>(places: &mut [u64], from: &[Line]) -> Result<us
 
 fn first_refused<O: HoldsItems>(size: usize, from: &[Line]) -> Option<u32>
     requires least { 1 ≤ length from.now }
-    requires most { length from.now ≤ 1024 }
+    requires most { length from.now ≤ MOST_SIZE }
     ensures { MatchOption result
         ((line : ℕ) → line < length from.now → IsItemLine O.IsPlace size from.now line)
         (λ line. IsFirstRefused O.kind size from.now line) }

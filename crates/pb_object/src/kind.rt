@@ -1,5 +1,7 @@
+//! The kinds of objects.
 ghost use Rattle.std.specs.Prelude.{◌≡◌};
 ghost use Rattle.pb_object.specs.Codes.{kind_code, kind_of_code, kind_word, kind_named};
+ghost use Rattle.pb_object.specs.Standing.{side_count};
 
 /// What a shared object is.
 #[derive(Clone, Copy, Debug, PartialEq, Eq)]
@@ -34,6 +36,18 @@ impl Kind {
         ensures { result ≡ kind_of_code code }
     {
         KINDS.iter().copied().find(|kind| code == kind.code())
+    }
+
+    /// How many sides an object of the kind has: a queue's puts and takes are combined apart, and have records of their own.
+    pub fn sides(self) -> u32
+        ensures { result ≡ side_count self }
+    {
+        match self {
+            Kind::Map => 1,
+            Kind::Stack => 1,
+            Kind::Heap => 1,
+            Kind::Queue => 2,
+        }
     }
 
     /// The word for the kind on a command line and in a report.

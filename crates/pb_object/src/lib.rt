@@ -6,6 +6,7 @@ mod heap;
 mod item_lines;
 mod kind;
 mod laws;
+mod limits;
 mod lines;
 mod map;
 mod number;
@@ -22,6 +23,7 @@ pub use laws::{
     items_come_out_in_order, kept_lists_stay_sound, pop_undoes_push, put_changes_its_register,
     removemins_rise, the_last_eight_are_kept, the_newest_is_first,
 };
+pub use limits::{MOST_CLIENTS, MOST_SIZE};
 pub use lines::{
     count_in, is_count_line, item_in, put_item, put_items, put_register, read_items, register_in,
 };
@@ -29,5 +31,5 @@ pub use map::{LAST_VERSION, Register, apply_to_map};
 pub use number::parse_number;
 pub use object::{NotAState, Object, pass_by_lines};
 pub use queue::{LAST_POSITION, PlainQueue};
-pub use request::{Ask, KEPT_REQUESTS, Kept, LAST_NUMBER, Op, Reply, is_operation};
+pub use request::{Ask, KEPT_REQUESTS, Kept, LAST_NUMBER, Op, Reply, is_operation, side_of};
 pub use stack::apply_to_stack;

@@ -1,3 +1,4 @@
+//! The words of object lines: registers, counts and items at their places.
 ghost use Rattle.std.specs.Prelude.{◌≡◌, ◌≢◌, ℕ, ◌+◌, ◌-◌, ◌*◌, ◌/◌, ◌<◌, ◌≤◌, ◌↔◌, length, slice_index, EachIndex, IsTrue};
 ghost use Rattle.pb_object.specs.ItemLines.{count_in, item_in, HasOneWord, IsCountLine};
 ghost use Rattle.pb_pmem.specs.Lines.{line_at};

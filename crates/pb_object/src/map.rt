@@ -1,3 +1,4 @@
+//! A map's plain state: its registers.
 ghost use Rattle.std.specs.Prelude.{◌≡◌};
 ghost use Rattle.pb_object.specs.Map.{last_version, after_write, write_reply, map_reply, next_registers};
 

@@ -1,6 +1,8 @@
+//! The trait of objects that one combiner keeps.
 ghost use Rattle.std.specs.Prelude.{◌≡◌, ◌≢◌, ◌≤◌, ◌↔◌, length, IsTrue, IfOk, IfErr, IsOk, OnOk, OnErr};
 ghost use Rattle.pb_object.specs.declared.kind.Kind.{Kind};
 ghost use Rattle.pb_object.specs.declared.kind.Kind.TheVariants.{Queue};
+ghost use Rattle.pb_object.specs.declared.limits.TheConstants.{MOST_SIZE};
 ghost use Rattle.pb_object.specs.Changes.{after_asks};
 ghost use Rattle.pb_object.specs.Object.{State, start_state, next_state, reply_of};
 ghost use Rattle.pb_object.specs.ObjectLines.{kind_of, size_of, object_line_count, LinesRepresent, IsFirstRefused};
@@ -20,7 +22,7 @@ pub struct NotAState {
 
 /// An object that one combiner keeps: a map, a stack or a heap.
 ///
-/// A contract sees it as the plain state of its kind. Its size is in 1..=1024 and never changes, and no call but `fresh` takes memory.
+/// A contract sees it as the plain state of its kind. Its size is in 1..=[`MOST_SIZE`] and never changes, and no call but `fresh` takes memory.
 pub trait Object: Sized + Drop {
     /// The object's kind.
     const KIND: Kind;
@@ -33,7 +35,7 @@ pub trait Object: Sized + Drop {
     /// The empty object of a size.
     fn fresh(alloc: Global, size: u32) -> Result<Self, AllocError>
         requires least { 1 ≤ size }
-        requires most { size ≤ 1024 }
+        requires most { size ≤ MOST_SIZE }
         ensures { IfOk result (λ object. state object ≡ start_state KIND size) };
 
     /// Whether an operation is one of this kind of object: `apply` takes no other.
@@ -47,7 +49,7 @@ pub trait Object: Sized + Drop {
     fn size(&self) -> u32
         ensures size { result ≡ size_of (state self.now) }
         ensures least { 1 ≤ result }
-        ensures most { result ≤ 1024 };
+        ensures most { result ≤ MOST_SIZE };
 
     /// Does what the operation says, and replies.
     fn apply(&mut self, op: &Op) -> Reply
@@ -74,7 +76,10 @@ pub trait Object: Sized + Drop {
     /// It may write all lines. An object whose requests touch few of them writes those alone.
     fn put_changes(&self, asks: &[Ask], into: &mut [Line])
         requires { length into.old ≡ object_line_count KIND (size_of (state self.now)) }
-        ensures { (before : State) → LinesRepresent into.old before → state self.now ≡ after_asks before asks.now → LinesRepresent into.new (state self.now) }
+        ensures { (before : State)
+            → LinesRepresent into.old before
+            → state self.now ≡ after_asks before asks.now
+            → LinesRepresent into.new (state self.now) }
     {
         self.put_lines(into);
     }

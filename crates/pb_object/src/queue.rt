@@ -1,3 +1,4 @@
+//! A queue's plain state: how many items were taken, and those that wait.
 ghost use Rattle.std.specs.Prelude.{◌≡◌, IfOk, OnOk, OnErr};
 ghost use Rattle.pb_object.specs.Queue.{empty_queue, queue_reply, next_waiting, put_reply, after_put, take_reply, after_take};
 

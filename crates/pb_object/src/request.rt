@@ -1,5 +1,6 @@
+//! Requests, their replies, and what is kept of them.
 ghost use Rattle.std.specs.Prelude.{◌≡◌, ◌↔◌, IsTrue};
-ghost use Rattle.pb_object.specs.Request.{IsOperation, LeavesUnusedZero, reply};
+ghost use Rattle.pb_object.specs.Request.{IsOperation, LeavesUnusedZero, reply, side_of_op};
 ghost use Rattle.pb_object.specs.Stack.{item_reply};
 
 use crate::codes::{Action, Answer};
@@ -74,6 +75,16 @@ pub fn is_operation(kind: Kind, op: &Op) -> bool
     match Action::from_code(op.code) {
         Some(action) => action.kind() == kind && leaves_unused_zero(action.argument_count(), op),
         None => false,
+    }
+}
+
+/// The side of an operation: 1 for takes of a queue, else 0, also for what is no operation.
+pub fn side_of(op: &Op) -> u32
+    ensures { result ≡ side_of_op op.now }
+{
+    match Action::from_code(op.code) {
+        Some(action) => action.side(),
+        None => 0,
     }
 }
 

@@ -1,3 +1,4 @@
+//! A stack's plain state: its items from bottom to top.
 ghost use Rattle.std.specs.Prelude.{◌≡◌, IfOk, OnOk, OnErr};
 ghost use Rattle.pb_object.specs.Stack.{stack_reply, next_items};
 

@@ -11,10 +11,11 @@ use Rattle.pb_layout.specs.Represents.{object_parts}
 use Rattle.pb_pair.specs.declared.known.Known.TheVariants.{Sure}
 use Rattle.pb_pair.specs.View.{PairView, IsPair, lines_of}
 
--- the position of the next item that is put, and that of the first item that waits, by the records in use
+-- the position of the next item that is put, by the records in use
 abbrev pub tail_in : PairView → ℕ
 tail_in pair = word_of (object_parts pair.head (lines_of pair)) 0 0
 
+-- the position of the first item that waits, by the records in use
 abbrev pub taken_in : PairView → ℕ
 taken_in pair = word_of (object_parts pair.head (lines_of pair)) 1 0
 

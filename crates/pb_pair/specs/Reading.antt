@@ -35,7 +35,7 @@ pub record HasBadHeader (front : List Line) (line : ℕ) : Type 0 where
   pub refused : ¬ IsHeaderLine (line_at front 0)
   pub place : line ≡ 0
 
--- the first line after the header doesn't count rounds, or the second one doesn't and the first one does
+-- the first line after the header doesn't count rounds
 pub record HasBadFirst (front : List Line) (line : ℕ) : Type 0 where
   pub head : Header
   pub valid : IsHeader head
@@ -43,6 +43,7 @@ pub record HasBadFirst (front : List Line) (line : ℕ) : Type 0 where
   pub refused : ¬ IsRoundLine head.kind 0 (line_at front 1)
   pub place : line ≡ 1
 
+-- the second line after the header doesn't count rounds, and the first one does
 pub record HasBadSecond (front : List Line) (line : ℕ) : Type 0 where
   pub head : Header
   pub valid : IsHeader head
@@ -93,6 +94,7 @@ pub record HasReadSecond (head : Header) (round : ℕ) (old new : Device) (read 
   pub two : 1 < side_count head.kind → HasReadSide head 1 round read old new
   pub room : length read.spare.items ≡ length read.lines.items
 
+-- why a second side wasn't read
 pub record IsSecondStop (head : Header) (round : ℕ) (old new : Device) (stop : Stop) : Type 0 where
   pub one : side_count head.kind ≡ 1 → (new ≡ old) × (stop ≡ NoMemory)
   pub two : 1 < side_count head.kind → IsSideStop head 1 round old new stop

@@ -14,11 +14,11 @@ use Rattle.pb_pair.specs.declared.known.Known.TheVariants.{Sure}
 use Rattle.pb_pair.specs.declared.side.Sides.{Sides}
 use Rattle.pb_pair.specs.View.{SideView, DoubtView, PairView, IsPair, HasFailed, side_of, side_view, round_of, if_known, at_side, forgotten}
 
--- the lines are written where the side's spare record is, given to the device and fenced ..
+-- the lines are written where the side's spare record is, given to the device and fenced
 abbrev pub staged_ops : Header → ℕ → SideView → List Line → List LogOp
 staged_ops head side part lines = stage_over (spare_place head side part.round) part.spare lines
 
--- .. and then the side switches to them
+-- a store: the lines are staged, and then the side switches to them
 abbrev pub stored_ops : Header → ℕ → SideView → List Line → List LogOp
 stored_ops head side part lines = store_over head side part.round part.spare lines
 
@@ -47,6 +47,7 @@ abbrev pub IsFailedStore : Header → ℕ → SideView → List Line → Bool �
 IsFailedStore head side part lines false ops = IsFailedPrefix (staged_ops head side part lines) ops
 IsFailedStore head side part lines true ops = IsFailedPrefixAfter (staged_ops head side part lines) (commit_ops side (part.round + 1)) ops
 
+-- the record in doubt after a store of these lines that failed
 abbrev pub doubt_of : ℕ → List Line → Bool → Option DoubtView
 doubt_of side lines called = Some (record { side = side; lines = lines; called = called })
 
@@ -57,19 +58,20 @@ pub record StoresSide (head : Header) (side : ℕ) (lines : List Line) (old new 
   pub device : Does (stored_ops head side old lines) before after
   pub part : new ≡ stored_side old lines
 
--- after one that failed: the lines lie in the memory of the spare record
+-- the memory of a side and the device after a store that failed: the lines lie in the memory of the spare record
 pub record StopsSide (head : Header) (side : ℕ) (lines kept : List Line) (called : Bool) (old new : SideView) (before after : Device) : Type 0 where
   pub device : Stops (IsFailedStore head side old lines called) before after
   pub round : new.round ≡ old.round
   pub same : new.lines ≡ old.lines
   pub kept_is : kept ≡ lines
 
--- of both sides
+-- the memory of both sides and the device after a whole store
 pub record StoresSides (head : Header) (side : ℕ) (lines : List Line) (old new : Sides) (before after : Device) : Type 0 where
   pub device : Does (stored_ops head side (at_side (side_view old.first) (side_view old.second) side) lines) before after
   pub first : side_view new.first ≡ at_side (stored_side (side_view old.first) lines) (side_view old.first) side
   pub second : side_view new.second ≡ at_side (side_view old.second) (stored_side (side_view old.second) lines) side
 
+-- the memory of both sides and the device after a store that failed
 pub record StopsSides (head : Header) (side : ℕ) (lines : List Line) (called : Bool) (old new : Sides) (before after : Device) : Type 0 where
   pub device : Stops (IsFailedStore head side (at_side (side_view old.first) (side_view old.second) side) lines called) before after
   pub first : forgotten (side_view new.first) ≡ forgotten (side_view old.first)

@@ -46,13 +46,15 @@ abbrev pub at_side : {T : Type 0} → T → T → ℕ → T
 at_side first second zero = first
 at_side first second (suc side) = second
 
+-- the side of a pair with this number
 abbrev pub side_of : PairView → ℕ → SideView
 side_of pair side = at_side pair.first pair.second side
 
--- a side's round number, and the lines of its record in use
+-- a side's round number
 abbrev pub round_of : PairView → ℕ → ℕ
 round_of pair side = (side_of pair side).round
 
+-- the lines of a side's record in use
 abbrev pub lines_of : PairView → ℕ → List Line
 lines_of pair side = (side_of pair side).lines
 
@@ -66,10 +68,12 @@ forgotten part = record part { written = false; spare = None }
 
 -- What the fields mean
 
+-- lines that are known, or none
 abbrev pub if_known : Bool → List Line → Option (List Line)
 if_known true lines = Some lines
 if_known false lines = None
 
+-- a side as contracts see it
 abbrev pub side_view : Side → SideView
 side_view side = record {
   round = side.round;
@@ -86,6 +90,7 @@ doubt_view sides doubt = record {
   called = doubt.called;
 }
 
+-- a pair as contracts see it
 abbrev pub pair_view : Device → Header → Sides → Known → Option Doubt → PairView
 pair_view device head sides known doubt = record {
   device = device;
@@ -125,6 +130,7 @@ pub record HoldsRecords (pair : PairView) (image : List Line) : Type 0 where
   pub in_doubt : (doubt : DoubtView) → pair.doubt ≡ Some doubt → doubt.called ≡ true
       → record_in_use image pair.head doubt.side (round_of pair doubt.side + 1) ≡ doubt.lines
 
+-- the sides are those that the header says, and what the pair knows of the device is so
 pub record IsPair (pair : PairView) : Type 0 where
   pub valid : IsHeader pair.head
   pub sides : (side : ℕ) → side < side_count pair.head.kind → IsSide pair.head side (side_of pair side)

@@ -13,7 +13,6 @@ ghost use Rattle.pb_pair.specs.Format.{AreFirst, MakesRegion, IsFormatStop};
 use crate::side::{Side, Sides};
 use crate::why::Stop;
 use pb_layout::{Header, MAGIC, count_line, header_line, record_len, record_line};
-use pb_object::Kind;
 use pb_pmem::{Line, LogOp, Pmem, PmemFault, make_all, write_lines};
 use std::alloc::Global;
 
@@ -35,7 +34,7 @@ pub fn make_region<P: Pmem>(
         return Err(Stop::WasTaken);
     }
     let first_side = Side::fresh(alloc, first, true)?;
-    let second_side = Side::fresh(alloc, second, head.kind == Kind::Queue)?;
+    let second_side = Side::fresh(alloc, second, head.kind.sides() == 2)?;
     write_region(device, head, first, second)?;
     Ok(Sides {
         first: first_side,
@@ -87,7 +86,7 @@ fn write_second<P: Pmem>(device: &mut P, head: &Header, second: &[Line]) -> Resu
     ensures err { OnErr result
         (Stops (IsFailedPrefix (writes_from (record_place head.now 1 0) second.now)) (P.seen device.old) (P.seen device.new)) }
 {
-    if head.kind == Kind::Queue {
+    if head.kind.sides() == 2 {
         write_lines(device, record_line(head, 1, 0), second)
     } else {
         Ok(())
@@ -134,14 +133,13 @@ fn give<P: Pmem>(device: &mut P, head: &Header) -> Result<(), PmemFault>
 {
     let front = LogOp::Back { first: 0, count: 3 };
     let first = back_of_record(head, 0);
-    match head.kind {
-        Kind::Map => make_all(device, &[front, first, LogOp::Fence]),
-        Kind::Stack => make_all(device, &[front, first, LogOp::Fence]),
-        Kind::Heap => make_all(device, &[front, first, LogOp::Fence]),
-        Kind::Queue => make_all(
+    if head.kind.sides() == 2 {
+        make_all(
             device,
             &[front, first, back_of_record(head, 1), LogOp::Fence],
-        ),
+        )
+    } else {
+        make_all(device, &[front, first, LogOp::Fence])
     }
 }
 

@@ -55,7 +55,7 @@ fn read_second<P: Pmem>(
     ensures ok { IfOk result (HasReadSecond head.now round (P.seen device.old) (P.seen device.new)) }
     ensures err { IfErr result (IsSecondStop head.now round (P.seen device.old) (P.seen device.new)) }
 {
-    if head.kind == Kind::Queue {
+    if head.kind.sides() == 2 {
         read_side(alloc, device, head, 1, round)
     } else {
         let side = Side::fresh(alloc, &[], false)?;
@@ -130,7 +130,7 @@ fn counts_rounds(kind: Kind, side: u32, line: &Line) -> bool
     requires { side < 2 }
     ensures { IsTrue result ↔ IsRoundLine kind side line.now }
 {
-    if side == 0 || kind == Kind::Queue {
+    if side < kind.sides() {
         counts(line, line.words[0])
     } else {
         counts(line, 0)

@@ -1,3 +1,4 @@
+//! A pair: a device with two records and an index word for each side.
 ghost use Rattle.std.specs.Prelude.{◌≡◌, ◌<◌, [], ◌∷◌, IfOk, IfErr, OnOk};
 ghost use Rattle.pb_pair.specs.View.{HasForgotten};
 

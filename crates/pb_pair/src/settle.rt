@@ -6,7 +6,6 @@ ghost use Rattle.pb_pair.specs.Settle.{called_in, called_on};
 
 use crate::known::Doubt;
 use pb_layout::{Header, MAGIC};
-use pb_object::Kind;
 use pb_pmem::{LogOp, Pmem, PmemFault, make_all};
 
 /// Writes the magic and the round numbers of the sides, and makes them durable.
@@ -26,11 +25,8 @@ pub fn settle_rounds<P: Pmem>(
         to: MAGIC,
     };
     let back = LogOp::Back { first: 0, count: 3 };
-    match head.kind {
-        Kind::Map => make_all(device, &[magic, index_word(0, first), back, LogOp::Sync]),
-        Kind::Stack => make_all(device, &[magic, index_word(0, first), back, LogOp::Sync]),
-        Kind::Heap => make_all(device, &[magic, index_word(0, first), back, LogOp::Sync]),
-        Kind::Queue => make_all(
+    if head.kind.sides() == 2 {
+        make_all(
             device,
             &[
                 magic,
@@ -39,7 +35,9 @@ pub fn settle_rounds<P: Pmem>(
                 back,
                 LogOp::Sync,
             ],
-        ),
+        )
+    } else {
+        make_all(device, &[magic, index_word(0, first), back, LogOp::Sync])
     }
 }
 

@@ -1,3 +1,4 @@
+//! Why a call of a pair gives no pair.
 ghost use Rattle.std.specs.Prelude.{◌≡◌};
 ghost use Rattle.pb_pair.specs.declared.why.Stop.TheVariants.{NoMemory, Fault};
 ghost use Rattle.pb_pair.specs.Why.{why_of};

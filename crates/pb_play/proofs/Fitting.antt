@@ -6,7 +6,7 @@ use Rattle.pb_object.specs.declared.request.TheConstants.{LAST_NUMBER}
 use Rattle.pb_object.specs.History.{Round, History, after_round, state_after}
 use Rattle.pb_object.specs.Standing.{Standing, rounds_of, side_count}
 use Rattle.pb_layout.specs.declared.header.Header.{Header}
-use Rattle.pb_layout.specs.declared.header.TheConstants.{MOST_CLIENTS}
+use Rattle.pb_object.specs.declared.limits.TheConstants.{MOST_CLIENTS}
 use Rattle.pb_layout.specs.Represents.{header_for}
 use Rattle.pb_layout.proofs.OneRecovery.{parts}
 use Rattle.pb_layout_laws.proofs.FewRounds.{side_rounds_few, legal_few}

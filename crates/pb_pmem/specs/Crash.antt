@@ -30,10 +30,11 @@ unfoldable pub through_last_sync : List LogOp → List LogOp
 through_last_sync [] = []
 through_last_sync (op ∷ log) = if list_any is_sync (op ∷ log) then op ∷ through_last_sync log else []
 
--- a crash picks a cut between these two: the number of a mark that the device has reached, or 0
+-- the least cut that a crash may pick: the number of the last sync, which the device has reached, or 0 where there is none
 abbrev pub least_cut : List LogOp → ℕ
 least_cut log = marks (through_last_sync log)
 
+-- the greatest cut that a crash may pick: the number of the last mark, which the device may have reached
 abbrev pub greatest_cut : List LogOp → ℕ
 greatest_cut log = marks log
 
@@ -77,11 +78,12 @@ abbrev pub is_unbacked : Option ℕ → List LogOp → Bool
 is_unbacked None after = false
 is_unbacked (Some line) after = not (list_any (is_back_of line) after)
 
--- the writes that have a `Back` of their line after them, and those that have none, in their order
+-- the writes that have a `Back` of their line after them, in their order
 unfoldable pub backed_writes : List LogOp → List LogOp
 backed_writes [] = []
 backed_writes (op ∷ log) = if is_backed (line_written op) log then op ∷ backed_writes log else backed_writes log
 
+-- the writes that have no `Back` of their line after them, in their order
 unfoldable pub unbacked_writes : List LogOp → List LogOp
 unbacked_writes [] = []
 unbacked_writes (op ∷ log) = if is_unbacked (line_written op) log then op ∷ unbacked_writes log else unbacked_writes log
@@ -90,8 +92,8 @@ unbacked_writes (op ∷ log) = if is_unbacked (line_written op) log then op ∷ 
 abbrev pub settled_writes : ℕ → List LogOp → List LogOp
 settled_writes cut log = backed_writes (through_mark cut log)
 
--- it is barred where it stands after mark `cut + 1`, and loose where it is neither:
--- the loose writes are those before mark `cut` that aren't settled, and all between it and the next mark
+-- the loose writes are those before mark `cut` that aren't settled, and all between it and the next mark; a write after mark `cut + 1`
+-- is barred, and is neither settled nor loose
 abbrev pub loose_writes : ℕ → List LogOp → List LogOp
 loose_writes cut log =
     unbacked_writes (through_mark cut log) ++ until_mark (after_mark cut log)

@@ -67,6 +67,7 @@ IsWithin (Back first count) = first + count ≤ LINES
 IsWithin Fence = Unit {0}
 IsWithin Sync = Unit {0}
 
+-- all of these operations lie within a device
 abbrev pub AllWithin : List LogOp → Type 0
 AllWithin [] = Unit {0}
 AllWithin (op ∷ ops) = IsWithin op × AllWithin ops

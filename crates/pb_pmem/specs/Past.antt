@@ -28,9 +28,11 @@ Last base [] line word value = value ≡ word_of base line word
 Last base (op ∷ past) line word value =
     MatchBool (is_mark op) (AtNextMark base past line word value) (MayWrite line word value op ⊎ Last base past line word value)
 
+-- a mark put here would settle this image
 abbrev pub AllAtNextMark : List Line → List LogOp → Words → Type 0
 AllAtNextMark base past image = (line word : ℕ) → AtNextMark base past line word (image line word)
 
+-- the greatest cut allows this image
 abbrev pub AllLast : List Line → List LogOp → Words → Type 0
 AllLast base past image = (line word : ℕ) → Last base past line word (image line word)
 

@@ -1,3 +1,4 @@
+//! The trait of devices, and how their calls fail.
 ghost use Rattle.std.specs.Prelude.{◌≡◌, ◌+◌, ◌<◌, ◌≤◌, OnOk, OnErr};
 ghost use Rattle.pb_pmem.specs.declared.log.LogOp.{LogOp};
 ghost use Rattle.pb_pmem.specs.Device.{Device, Adds, Fails, Reads, IsNoOp, MayAdd, IsWhole, IsReplay};

@@ -8,6 +8,6 @@ mod log;
 mod operations;
 
 pub use device::{DeviceFault, Pmem, PmemFault};
-pub use line::{LINES, Line};
+pub use line::{DEVICE_BYTES, LINES, Line};
 pub use log::LogOp;
 pub use operations::{make, make_all, write_lines};

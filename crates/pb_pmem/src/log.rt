@@ -1,3 +1,4 @@
+//! The operations that a log of a device has.
 use crate::line::Line;
 
 /// An operation that changes a device, or orders what a crash may leave of it.

@@ -1,5 +1,6 @@
 -- The items of a queue in memory: a ring of places, in which positions that are a size apart share a place.
 use Rattle.std.specs.Prelude.{ℕ, zero, suc, ◌+◌, ◌-◌, ◌%◌, ◌≤◌, Bool, true, false, List, [], ◌∷◌, ◌++◌, length, slice_index}
+use Rattle.pb_object.specs.declared.limits.TheConstants.{MOST_SIZE}
 use Rattle.pb_object.specs.Queue.{Waiting, last_position, tail_of}
 
 -- a queue's size, what waits in it as it is known for sure, and what waits after the operations applied since
@@ -32,6 +33,7 @@ pub record IsBounded (size : ℕ) (queue : Waiting) : Type 0 where
 
 -- Within the ring
 
+-- the item of a position
 abbrev pub item_at : List ℕ → ℕ → ℕ
 item_at places position = slice_index places (position % length places)
 
@@ -55,7 +57,7 @@ ring_view places head tail next_head next_tail = record {
 -- positions that a ring of a size can hold: the items that wait for sure and those that wait after what was applied have places of their own
 pub record ArePositions (size head tail next_head next_tail : ℕ) : Type 0 where
   pub least : 1 ≤ size
-  pub most : size ≤ 1024
+  pub most : size ≤ MOST_SIZE
   pub sure : head ≤ tail
   pub taken : head ≤ next_head
   pub next : next_head ≤ next_tail

@@ -15,6 +15,7 @@ use Rattle.pb_queue.specs.Items.{ItemsView}
 abbrev pub added_since : Waiting → Waiting → List ℕ
 added_since before after = drop (tail_of before - after.taken) after.items
 
+-- the items that were put since what is known for sure
 abbrev pub added : ItemsView → List ℕ
 added items = added_since items.sure items.next
 
@@ -46,5 +47,6 @@ pub record HasFailedAfterCells (from : ℕ) (put : List ℕ) (side : ℕ) (lines
   pub failed : HasFailedStore side lines between fault new
   pub safe : FailedStoreCovers side lines between new
 
+-- a round failed among its cells or after them
 abbrev pub HasFailedRound : ℕ → List ℕ → ℕ → List Line → PairView → DeviceFault → PairView → Type 0
 HasFailedRound from put side lines old fault new = HasFailedAmongCells from put old fault new ⊎ HasFailedAfterCells from put side lines old fault new

@@ -1,7 +1,9 @@
 -- Applying the requests of a round, and the record that it stores.
 use Rattle.std.specs.Prelude.{◌≡◌, ◌≢◌, ℕ, zero, suc, ◌+◌, ◌*◌, ◌<◌, List, length, All}
 use Rattle.pb_pmem.specs.declared.line.Line.{Line}
+use Rattle.pb_object.specs.declared.limits.TheConstants.{MOST_CLIENTS}
 use Rattle.pb_object.specs.declared.request.Ask.{Ask}
+use Rattle.pb_object.specs.declared.request.TheConstants.{KEPT_REQUESTS}
 use Rattle.pb_object.specs.History.{IsOfSide}
 use Rattle.pb_object.specs.Object.{Waits}
 use Rattle.pb_object.specs.Queue.{Waiting, tail_of}
@@ -11,8 +13,8 @@ use Rattle.pb_queue.specs.Items.{ItemsView}
 -- a request of a side, of a client whose slots a record has
 pub record IsServable (side : ℕ) (lines : List Line) (ask : Ask) : Type 0 where
   pub of_side : IsOfSide side ask.op
-  pub client : ask.client < 16
-  pub room : 8 * ask.client + 8 < length lines
+  pub client : ask.client < MOST_CLIENTS
+  pub room : KEPT_REQUESTS * ask.client + KEPT_REQUESTS < length lines
 
 -- so are all of these, whose clients rise
 pub record AreServable (side : ℕ) (lines : List Line) (asks : List Ask) : Type 0 where

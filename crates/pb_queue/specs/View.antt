@@ -17,6 +17,7 @@ use Rattle.pb_engine.specs.View.{EngineView}
 use Rattle.pb_queue.specs.Items.{ItemsView}
 use Rattle.pb_queue.specs.Standing.{standing_of}
 
+-- the engine as contracts see it
 abbrev pub twin_view : PairView → ItemsView → List Ask → EngineView
 twin_view pair items asked = record {
   standing = standing_of pair items.sure;

@@ -10,12 +10,14 @@ waiting_of (Items size items) = empty_queue
 waiting_of (Rising size items) = empty_queue
 waiting_of (Waits size queue) = queue
 
--- the position of the first item that waits, and that of the next one that is put
+-- the position of the first item that waits
 abbrev pub taken_in : State → ℕ
 taken_in state = (waiting_of state).taken
 
+-- the position of the next item that is put
 abbrev pub tail_in : State → ℕ
 tail_in state = tail_of (waiting_of state)
 
+-- the items that wait, from the head to the tail
 abbrev pub items_in : State → List ℕ
 items_in state = (waiting_of state).items

@@ -37,6 +37,7 @@ impl Model for Items {
 impl Items {
     ghost use Rattle.std.specs.Prelude.{◌≡◌, ◌-◌, ◌<◌, ◌≤◌, IfOk, Some, length, slice_index};
     ghost use Rattle.pb_object.specs.declared.codes.Action.TheVariants.{QueuePut};
+    ghost use Rattle.pb_object.specs.declared.limits.TheConstants.{MOST_SIZE};
     ghost use Rattle.pb_object.specs.Codes.{action_of};
     ghost use Rattle.pb_object.specs.Queue.{last_position, tail_of, queue_reply, next_waiting, put_reply, after_put, take_reply, after_take};
     ghost use Rattle.pb_queue.specs.Items.{IsBounded, empty_items, with_item};
@@ -44,7 +45,7 @@ impl Items {
     /// An empty queue of a size, from which so many items were taken before.
     pub fn fresh(alloc: Global, size: u32, taken: u64) -> Result<Items, AllocError>
         requires least { 1 ≤ size }
-        requires most { size ≤ 1024 }
+        requires most { size ≤ MOST_SIZE }
         requires taken { taken ≤ last_position }
         ensures { IfOk result (λ items. items ≡ empty_items size taken) }
     {

@@ -1,5 +1,6 @@
 //! Reading what a queue's region holds beyond what opening judged, and judging it.
 ghost use Rattle.std.specs.Prelude.{◌≡◌, ◌↔◌, ℕ, ◌+◌, ◌-◌, ◌*◌, ◌/◌, ◌<◌, ◌≤◌, IsTrue, MatchOption, length, IfOk, IfErr, OnOk};
+ghost use Rattle.pb_object.specs.declared.limits.TheConstants.{MOST_CLIENTS};
 ghost use Rattle.pb_pmem.specs.declared.line.TheConstants.{LINES};
 ghost use Rattle.pb_object.specs.declared.kind.Kind.TheVariants.{Queue};
 ghost use Rattle.pb_object.specs.ObjectLines.{IsAllowedLine, IsFirstRefused};
@@ -138,12 +139,12 @@ fn first_refused_count(size: u32, lines: &[Line]) -> Option<u32>
 
 /// The first of so many slots of a record of takes whose number stands among its client's puts too.
 fn first_shared(puts: &[Line], takes: &[Line], clients: u32) -> Option<u32>
-    requires few { clients ≤ 16 }
-    requires puts { 8 * clients < length puts.now }
-    requires takes { 8 * clients < length takes.now }
+    requires few { clients ≤ MOST_CLIENTS }
+    requires puts { KEPT_REQUESTS * clients < length puts.now }
+    requires takes { KEPT_REQUESTS * clients < length takes.now }
     ensures { MatchOption result
-        ((slot : ℕ) → slot < 8 * clients → IsApart (at_side puts.now takes.now) slot)
-        (IsFirstWithout (IsApart (at_side puts.now takes.now)) (8 * clients)) }
+        ((slot : ℕ) → slot < KEPT_REQUESTS * clients → IsApart (at_side puts.now takes.now) slot)
+        (IsFirstWithout (IsApart (at_side puts.now takes.now)) (KEPT_REQUESTS * clients)) }
 {
     for slot in 0..KEPT_REQUESTS * clients {
         if !is_apart(puts, takes, slot as usize) {

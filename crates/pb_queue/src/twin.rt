@@ -1,4 +1,6 @@
+//! The engine of a queue.
 ghost use Rattle.std.specs.Prelude.{◌≡◌, refl};
+ghost use Rattle.pb_object.specs.declared.limits.TheConstants.{MOST_CLIENTS, MOST_SIZE};
 ghost use Rattle.pb_object.specs.declared.kind.Kind.TheVariants.{Queue};
 ghost use Rattle.pb_engine.specs.Asks.{side_asked};
 ghost use Rattle.pb_queue.specs.Items.{settled_items};
@@ -64,12 +66,13 @@ impl<P: Pmem> TwinQueue<P> {
         size: u32,
     ) -> Result<TwinQueue<P>, Refused<P>>
         requires some_clients { 1 ≤ clients }
-        requires few_clients { clients ≤ 16 }
+        requires few_clients { clients ≤ MOST_CLIENTS }
         requires some_size { 1 ≤ size }
-        requires small_size { size ≤ 1024 }
-        ensures ok { IfOk result (IsFresh (record { kind = Queue; clients = clients; size = size }) (P.seen device)) }
-        ensures err { IfErr result
-            (λ refused. IsFreshRefusal (record { kind = Queue; clients = clients; size = size }) (P.seen device) (P.seen refused.device) refused.why) }
+        requires small_size { size ≤ MOST_SIZE }
+        ensures ok { let head : Header = record { kind = Queue; clients = clients; size = size } in
+            IfOk result (IsFresh head (P.seen device)) }
+        ensures err { let head : Header = record { kind = Queue; clients = clients; size = size } in
+            IfErr result (λ refused. IsFreshRefusal head (P.seen device) (P.seen refused.device) refused.why) }
     {
         let head = Header {
             kind: Kind::Queue,
@@ -251,11 +254,8 @@ impl<P: Pmem> Engine for TwinQueue<P> {
 fn side_of(asks: &[Ask]) -> u32
     ensures { result ≡ side_asked asks.now }
 {
-    let Some(ask) = asks.first() else {
-        return 0;
-    };
-    match Action::from_code(ask.op.code) {
-        Some(action) => action.side(),
+    match asks.first() {
+        Some(ask) => pb_object::side_of(&ask.op),
         None => 0,
     }
 }

@@ -11,7 +11,7 @@ use Rattle.atomic_table.proofs.Lists.{exchanged}
 use Rattle.pb_object.specs.declared.kind.Kind.{Kind}
 use Rattle.pb_object.specs.declared.request.Ask.{Ask}
 use Rattle.pb_object.specs.declared.request.TheConstants.{LAST_NUMBER}
-use Rattle.pb_layout.specs.declared.header.TheConstants.{MOST_CLIENTS}
+use Rattle.pb_object.specs.declared.limits.TheConstants.{MOST_CLIENTS}
 use Rattle.pb_layout_laws.proofs.FewRounds.{legal_few}
 use Rattle.pb_core.specs.declared.event.Stepped.TheVariants.{Went}
 use Rattle.pb_core.specs.Client.{Looking, Taking, Holding, is_holding}

@@ -7,7 +7,7 @@ use Rattle.std.proofs.lemmas.Bool.Decides.{nat_tests}
 use Rattle.std.proofs.lemmas.List.{append-nil, take_more, take_more_set, take_all, take-append-drop, length-set, length-take, length-replicate, get_or-replicate, get_or-set_same, get_or-set_other}
 use Rattle.std.proofs.lemmas.List.Elements.{filter-append}
 use Rattle.pb_object.specs.declared.request.Ask.{Ask}
-use Rattle.pb_layout.specs.declared.header.TheConstants.{MOST_CLIENTS}
+use Rattle.pb_object.specs.declared.limits.TheConstants.{MOST_CLIENTS}
 use Rattle.pb_report.specs.declared.outcome.Outcome.{Outcome}
 use Rattle.pb_report.specs.Outcomes.{lines_of_client}
 use Rattle.pb_run.specs.declared.lines.Lines.{Lines}

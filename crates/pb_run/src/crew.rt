@@ -1,6 +1,6 @@
 //! The workers of all clients.
 ghost use Rattle.std.specs.Prelude.{◌≡◌, ◌<◌, ◌≤◌, ◌+◌, ◌∷◌, [], All, length, map, vec_len, vec_capacity, slice_index_or, slice_set};
-ghost use Rattle.pb_layout.specs.declared.header.TheConstants.{MOST_CLIENTS};
+ghost use Rattle.pb_object.specs.declared.limits.TheConstants.{MOST_CLIENTS};
 ghost use Rattle.pb_run.specs.Crew.{AreReady, IsThrough, AreThrough, HaveAsksOf, AreBroughtTogether, HasLine, HasOutcome, IsAskBelow};
 ghost use Rattle.pb_run.specs.Worker.{IsReady};
 
@@ -8,8 +8,7 @@ use crate::lines::Lines;
 use crate::worker::{Worker, work};
 use pb_engine::Engine;
 use pb_io::Gate;
-use pb_layout::MOST_CLIENTS;
-use pb_object::Ask;
+use pb_object::{Ask, MOST_CLIENTS};
 use pb_report::Outcome;
 use pb_shared::{Pass, Shared};
 use std::sync::Wait;

@@ -1,3 +1,4 @@
+//! What may stand at a place of a stack's object lines.
 ghost use Rattle.std.specs.Prelude.{◌+◌, ◌/◌, ◌<◌, ◌↔◌, length, IsTrue};
 ghost use Rattle.pb_object.specs.declared.kind.Kind.TheVariants.{Stack as StackKind};
 ghost use Rattle.pb_object.specs.ItemLines.{IsStackPlace};

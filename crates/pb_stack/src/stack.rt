@@ -1,3 +1,4 @@
+//! The bounded stack.
 ghost use Rattle.std.specs.Prelude.{◌≡◌, ◌-◌, ◌<◌, length, take, slice_index, refl};
 ghost use Rattle.pb_object.specs.declared.kind.Kind.TheVariants.{Stack as StackKind};
 ghost use Rattle.pb_object.specs.Object.{Items};
