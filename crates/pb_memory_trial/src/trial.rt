@@ -5,20 +5,19 @@ use crate::crash::{device_of, push_left};
 use crate::numbers::push_numbers;
 use crate::objects::{heap_after, queue_reply, stack_after};
 use crate::streams::passed_on;
-use crate::texts::{event_count, plain_script};
+use crate::texts::plain_script;
 use pb_object::{Action, Op};
 use std::alloc::{AllocError, Global};
 
 /// The most bytes of a source that are read.
 pub const SOURCE_LIMIT: usize = 65536;
 
-/// What the calls give for a source: its script in the plain form; how many event lines it has; what a crash leaves of a device; the
+/// What the calls give for a source: its script in the plain form; what a crash leaves of a device; the
 /// objects after an operation; and the first bytes of the source, passed on.
 pub fn trial(alloc: Global, source: &[u8]) -> Result<Vec<u8>, AllocError>
     requires { length source.now ≤ SOURCE_LIMIT }
 {
     let mut text = plain_script(alloc, source)?;
-    push_numbers(&mut text, &[event_count(alloc, source)?])?;
     push_left(alloc, &mut text, &device_of(alloc, source)?)?;
     push_objects(alloc, &mut text)?;
     text.extend_from_slice(&passed_on(alloc, source)?)?;

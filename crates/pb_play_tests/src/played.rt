@@ -6,7 +6,7 @@ use pb_core::{Event, Stepped};
 use pb_object::{Ask, Kind};
 use pb_play::{World, step};
 use pb_pmem::Line;
-use pb_script::parse_schedule;
+use pb_script::{EventLine, read_event_line};
 use std::alloc::Global;
 use std::marker::Model;
 use std::process::Abort;
@@ -80,13 +80,11 @@ impl Played {
         clients: u32,
         schedule: &str,
     ) -> Vec<Stepped> {
-        let bytes = schedule.as_bytes();
-        assert!(rt; bytes.len() < 1024);
         let mut answers = Vec::new(alloc);
-        let Ok(events) = parse_schedule(alloc, bytes, kind, clients) else {
-            panic!(rt; "a schedule");
-        };
-        for repeat in &events {
+        for line in schedule.lines() {
+            let EventLine::Events(repeat) = read_event_line(line.as_bytes(), kind, clients) else {
+                panic!(rt; "events");
+            };
             for _ in 0..repeat.times {
                 let answer = self.make(rt, &repeat.event);
                 if answer != Stepped::Went {

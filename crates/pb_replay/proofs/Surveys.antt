@@ -6,7 +6,7 @@ use Rattle.pb_object.specs.declared.kind.Kind.{Kind}
 use Rattle.pb_script.specs.declared.event.EventLine.{EventLine}
 use Rattle.pb_script.specs.declared.event.EventLine.TheVariants.{Nothing, Refused, Events}
 use Rattle.pb_script.specs.declared.event.Repeat.{Repeat}
-use Rattle.pb_script.specs.declared.schedule.TheConstants.{MOST_EVENTS}
+use Rattle.pb_script.specs.declared.event.TheConstants.{MOST_EVENTS}
 use Rattle.pb_script.specs.declared.script.ScriptFault.{ScriptFault}
 use Rattle.pb_script.specs.declared.script.ScriptFault.TheVariants.{Memory, Many, Line}
 use Rattle.pb_script.specs.Events.{event_of, event_line, event_line_by}

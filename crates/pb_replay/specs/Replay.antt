@@ -12,7 +12,7 @@ use Rattle.pb_core.specs.Possible.{IsPossible}
 use Rattle.pb_core.specs.World.{World}
 use Rattle.pb_region_report.specs.AnyEngine.{view_of, ListsHeap}
 use Rattle.pb_script.specs.declared.event.Repeat.{Repeat}
-use Rattle.pb_script.specs.declared.schedule.TheConstants.{MOST_EVENTS}
+use Rattle.pb_script.specs.declared.event.TheConstants.{MOST_EVENTS}
 use Rattle.pb_script.specs.declared.script.ScriptFault.{ScriptFault}
 use Rattle.pb_script.specs.declared.script.ScriptFault.TheVariants.{Memory, Many, Line}
 use Rattle.pb_script.specs.Schedule.{HasFewEvents, IsSchedule}

@@ -1,6 +1,6 @@
 //! How many events a schedule names.
 ghost use Rattle.std.specs.Prelude.{◌≡◌, ◌+◌, ◌≤◌, OnOk, IfErr};
-ghost use Rattle.pb_script.specs.declared.schedule.TheConstants.{MOST_EVENTS};
+ghost use Rattle.pb_script.specs.declared.event.TheConstants.{MOST_EVENTS};
 ghost use Rattle.pb_script.specs.Words.{lines};
 ghost use Rattle.pb_replay.specs.Survey.{IsCounted, IsUncounted, counted, events_more};
 

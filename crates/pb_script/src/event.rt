@@ -14,6 +14,9 @@ use pb_object::{Ask, Kind, parse_number};
 /// How often one line may name an event.
 pub const MOST_TIMES: u32 = 256;
 
+/// How many event lines a schedule may have.
+pub const MOST_EVENTS: u32 = 4096;
+
 /// An event, and how often it happens, one time after the other.
 #[derive(Clone, Copy, Debug, PartialEq, Eq)]
 pub struct Repeat {
@@ -58,7 +61,7 @@ pub fn read_event_line(line: &[u8], kind: Kind, clients: u32) -> EventLine
 
 /// The events that a text's words name, if they name any: for `ask` under any number, for the others as often as they say.
 #[tactic(auto, unfolding(crate::specs::Events::event_of))]
-pub fn read_event(text: &[u8], kind: Kind, clients: u32) -> Option<Repeat>
+fn read_event(text: &[u8], kind: Kind, clients: u32) -> Option<Repeat>
     ensures { result ≡ event_of kind clients (words text.now) }
 {
     let (word, rest) = cut_word(text)?;

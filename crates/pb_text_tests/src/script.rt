@@ -10,8 +10,8 @@ fn read(rt: &impl Abort, alloc: Global, source: &[u8]) -> Result<usize, ScriptFa
     Ok(parse_script(alloc, source, Kind::Map, 2)?.len())
 }
 
-/// A source is refused at this line.
-pub fn line(number: u32) -> Result<usize, ScriptFault> {
+// A source is refused at this line.
+fn line(number: u32) -> Result<usize, ScriptFault> {
     Err(ScriptFault::Line { number })
 }
 
