@@ -2,7 +2,7 @@
 use crate::found::{Found, read_image};
 use crate::logs::worked_device;
 use crate::rounds::{ToldRound, told_rounds};
-use pb_fixtures::left_at;
+use pb_device_fixtures::left_at;
 use pb_image::Image;
 use pb_pmem::LogOp;
 use std::alloc::Global;

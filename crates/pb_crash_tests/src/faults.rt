@@ -4,12 +4,11 @@ use crate::found::Found;
 use crate::logs::{log, worked_device};
 use crate::pair::{opened, settle_ops, settled, stored};
 use crate::rounds::told_rounds;
-use pb_fixtures::{
-    Attempt, WAYS, add_failing, failing, failures, format, log_of, store_next, tells, worked,
-};
+use pb_device_fixtures::{Attempt, WAYS, add_failing, failing, failures, log_of};
 use pb_image::{Call, Fail, How, Image};
 use pb_pair::{Pair, Why};
 use pb_pmem::{DeviceFault, LogOp};
+use pb_region_fixtures::{format, store_next, tells, worked};
 use std::alloc::Global;
 use std::process::Abort;
 

@@ -1,12 +1,12 @@
 //! What an image represents.
 ghost use Rattle.std.specs.Prelude.{◌<◌};
 
-use pb_fixtures::{GET, HEAD, NONE, PUT};
 use pb_image::Image;
 use pb_layout::{LayoutFault, count_line, header_of, kept_in_slot, record_line, record_of};
 use pb_map::RegMap;
 use pb_object::Object;
 use pb_pmem::Line;
+use pb_region_fixtures::{GET, HEAD, NONE, PUT};
 use std::alloc::Global;
 use std::process::Abort;
 

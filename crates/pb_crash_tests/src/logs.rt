@@ -1,7 +1,8 @@
 //! Logs that begin as the worked one, and devices to which their operations were done.
-use pb_fixtures::{log_with, made};
+use pb_device_fixtures::made;
 use pb_image::Image;
 use pb_pmem::LogOp;
+use pb_region_fixtures::log_with;
 use std::alloc::Global;
 use std::process::Abort;
 

@@ -4,9 +4,9 @@ use crate::found::Found;
 use crate::logs::{device, log};
 use crate::pair::settle_ops;
 use crate::rounds::told_rounds;
-use pb_fixtures::worked;
 use pb_image::Image;
 use pb_pmem::LogOp;
+use pb_region_fixtures::worked;
 use std::alloc::Global;
 use std::process::Abort;
 

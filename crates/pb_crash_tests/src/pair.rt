@@ -3,10 +3,11 @@ ghost use Rattle.std.specs.Prelude.{◌≡◌};
 ghost use Rattle.pb_pair.specs.declared.known.Known.TheVariants.{Opened};
 
 use crate::logs::{log, worked_device};
-use pb_fixtures::{MAGIC, back, format, get_over_unknown, open, round_of, store_next, tells, word};
+use pb_device_fixtures::{MAGIC, back, word};
 use pb_image::Image;
 use pb_pair::{Pair, Why};
 use pb_pmem::LogOp;
+use pb_region_fixtures::{format, get_over_unknown, open, round_of, store_next, tells};
 use std::alloc::Global;
 use std::process::Abort;
 

@@ -2,7 +2,7 @@
 use crate::crash::found_at_the_end;
 use crate::found::Found;
 use crate::logs::{device, log};
-use pb_fixtures::{MAGIC, back, word};
+use pb_device_fixtures::{MAGIC, back, word};
 use pb_pmem::LogOp;
 use std::alloc::Global;
 use std::process::Abort;

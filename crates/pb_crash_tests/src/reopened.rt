@@ -1,9 +1,10 @@
 //! Regions that are opened after a crash, and again after a crash while they are settled.
 use crate::logs::worked_device;
 use crate::pair::settled;
-use pb_fixtures::{Left, left_at, round_of, tells};
+use pb_device_fixtures::{Left, left_at};
 use pb_image::Image;
 use pb_pair::{Pair, Why};
+use pb_region_fixtures::{round_of, tells};
 use std::alloc::Global;
 use std::process::Abort;
 

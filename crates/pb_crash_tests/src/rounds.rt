@@ -1,10 +1,10 @@
 //! The history that a log of the worked region tells, by the places of its operations. The device began with zeros.
 use crate::logs::{device, log};
-use pb_fixtures::{GET, PUT};
 use pb_image::Image;
 use pb_layout::client_of;
 use pb_object::{Kept, Kind};
 use pb_pmem::LogOp;
+use pb_region_fixtures::{GET, PUT};
 use std::alloc::Global;
 use std::process::Abort;
 

@@ -1,7 +1,7 @@
 //! A device in memory: what it keeps, how it fails, and what a crash leaves of it. And one that never fails.
 ghost use Rattle.std.specs.Prelude.{◌<◌};
 
-use pb_fixtures::MAGIC;
+use pb_device_fixtures::MAGIC;
 use pb_image::{Call, Fail, How, Image, Sound};
 use pb_pmem::{Line, LogOp, Pmem, PmemFault};
 use std::alloc::Global;

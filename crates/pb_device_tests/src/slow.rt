@@ -1,7 +1,7 @@
 //! What a crash leaves, by the plain words: a slow program to compare with, on logs made at random.
 ghost use Rattle.std.specs.Prelude.{◌<◌};
 
-use pb_fixtures::left_at;
+use pb_device_fixtures::left_at;
 use pb_image::Image;
 use pb_pmem::{Line, LogOp, Pmem, PmemFault};
 use std::alloc::Global;

@@ -2,7 +2,7 @@
 use crate::cases::{Case, HEAP, MAP, Round, STACK};
 use crate::engines::{adopt, fresh, made, serve};
 use pb_comb::Comb;
-use pb_fixtures::word;
+use pb_device_fixtures::word;
 use pb_heap::MinHeap;
 use pb_image::Image;
 use pb_map::RegMap;

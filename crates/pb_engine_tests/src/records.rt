@@ -1,7 +1,7 @@
 //! The records and the operations that are expected of an engine.
 use crate::cases::{Case, Round, Row};
 use arrayvec::ArrayVec;
-use pb_fixtures::{MAGIC, back, whole, word};
+use pb_device_fixtures::{MAGIC, back, whole, word};
 use pb_object::{Ask, Op};
 use pb_pmem::{Line, LogOp};
 use std::alloc::Global;

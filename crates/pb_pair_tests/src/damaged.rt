@@ -1,8 +1,9 @@
 //! Regions that are refused at an opening.
-use pb_fixtures::{MAGIC, log_with, made, open, tells, word};
+use pb_device_fixtures::{MAGIC, made, word};
 use pb_image::Image;
 use pb_pair::{Pair, Why};
 use pb_pmem::LogOp;
+use pb_region_fixtures::{log_with, open, tells};
 use std::alloc::Global;
 use std::process::Abort;
 

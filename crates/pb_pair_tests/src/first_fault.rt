@@ -1,10 +1,10 @@
 //! A call of a pair ends with the first call of its device that fails: that isn't made again, and none is made after it.
 //! And opening reads each line once that it needs.
-use pb_fixtures::{HEAD, format, store_next, tells, worked, worked_device};
 use pb_image::{Call, Fail, How, Image};
 use pb_layout::record_len;
 use pb_pair::{Pair, Why};
 use pb_pmem::DeviceFault;
+use pb_region_fixtures::{HEAD, format, store_next, tells, worked, worked_device};
 use std::alloc::Global;
 use std::process::Abort;
 

@@ -1,9 +1,10 @@
 //! Ten requests of one client, of which the last eight are kept.
-use pb_fixtures::{HEAD, format, left_at, open, store};
+use pb_device_fixtures::left_at;
 use pb_image::Image;
 use pb_layout::kept_in_slot;
 use pb_object::{Kept, Op, Reply};
 use pb_pmem::Line;
+use pb_region_fixtures::{HEAD, format, open, store};
 use std::alloc::Global;
 use std::process::Abort;
 

@@ -1,10 +1,10 @@
 //! A store writes the lines that differ from what the spare record is known to hold: a map of 1,024 registers for one client.
-use pb_fixtures::{format_map, open, store};
 use pb_image::Image;
 use pb_layout::Header;
 use pb_object::Kind;
 use pb_pair::Pair;
 use pb_pmem::{Line, LogOp};
+use pb_region_fixtures::{format_map, open, store};
 use std::alloc::Global;
 use std::process::Abort;
 

@@ -1,6 +1,6 @@
 //! Crashes at each moment of the queue's log.
 use crate::queue::{changed, opened};
-use pb_fixtures::left_at;
+use pb_device_fixtures::left_at;
 use pb_image::Image;
 use pb_pair::Why;
 use std::alloc::Global;

@@ -2,10 +2,11 @@
 use crate::crashes::openings;
 use crate::operations::{queue_log, settle_ops};
 use crate::queue::{Change, ROUNDS, ROWS, Row, changed, format, formatted, has_cell, make, tells};
-use pb_fixtures::{Attempt, WAYS, add, add_failing, failing, log_of, open, word};
+use pb_device_fixtures::{Attempt, WAYS, add, add_failing, failing, log_of, word};
 use pb_image::{Call, Fail, How, Image};
 use pb_pair::{Pair, Why};
 use pb_pmem::{DeviceFault, LogOp};
+use pb_region_fixtures::open;
 use std::alloc::{AllocError, Global};
 use std::process::Abort;
 

@@ -1,9 +1,9 @@
 //! A call of a pair over a queue ends with the first call of its device that fails: that isn't made again, and none is made after it.
 use crate::queue::{HEAD, ROWS, format, make};
-use pb_fixtures::open;
 use pb_image::{Call, Fail, How, Image};
 use pb_pair::{Pair, Why};
 use pb_pmem::DeviceFault;
+use pb_region_fixtures::open;
 use std::alloc::Global;
 use std::process::Abort;
 

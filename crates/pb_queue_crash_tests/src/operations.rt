@@ -1,6 +1,6 @@
 //! The records of the queue, and the operations that formatting, changing and settling it make.
 use crate::queue::ROUNDS;
-use pb_fixtures::{MAGIC, back, whole, word};
+use pb_device_fixtures::{MAGIC, back, whole, word};
 use pb_pmem::{Line, LogOp};
 use std::alloc::{AllocError, Global};
 use std::process::Abort;

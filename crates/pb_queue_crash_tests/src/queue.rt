@@ -3,12 +3,12 @@ ghost use Rattle.std.specs.Prelude.{◌≡◌, length};
 ghost use Rattle.pb_pmem.specs.Lines.{word_of};
 
 use crate::operations::{queue_log, record};
-use pb_fixtures::{open, store};
 use pb_image::Image;
 use pb_layout::{Header, record_of};
 use pb_object::Kind;
 use pb_pair::{Pair, Refused, Why};
 use pb_pmem::{DeviceFault, Line};
+use pb_region_fixtures::{open, store};
 use std::alloc::Global;
 use std::process::Abort;
 

@@ -1,7 +1,7 @@
 //! A crash at each moment: an acknowledged request stays, and one that isn't is recorded whole or
 //! not at all.
 use crate::engine::{Step, made, open, recorded, serve_step, settle, stands_at, two_places};
-use pb_fixtures::left_at;
+use pb_device_fixtures::left_at;
 use pb_image::Image;
 use pb_pair::Why;
 use pb_queue::TwinQueue;

@@ -1,7 +1,7 @@
 //! What `fresh map 1 SIZE` does to its device, operation by operation.
 use crate::rows::{FRESH, Row, call};
 use crate::run::zeros;
-use pb_fixtures::{MAGIC, back, whole, word};
+use pb_device_fixtures::{MAGIC, back, whole, word};
 use pb_pmem::LogOp;
 use std::alloc::Global;
 use std::process::Abort;

@@ -30,3 +30,22 @@ pub fn left_at(
     }
     Ok(all)
 }
+
+/// The device that a crash at a moment leaves at a cut, with this room. None where the device's log has no such moment, or the moment no
+/// such cut.
+pub fn crash_left(
+    alloc: Global,
+    image: &Image,
+    (moment, cut): (u32, u32),
+    pick: u64,
+    room: u32,
+) -> Result<Option<Image>, AllocError> {
+    if moment as usize > image.log().len() {
+        return Ok(None);
+    }
+    let (least, greatest) = image.cuts(moment);
+    if cut < least || greatest < cut {
+        return Ok(None);
+    }
+    Ok(Some(image.after_crash(alloc, moment, cut, pick, room)?))
+}

@@ -1,5 +1,5 @@
 //! The worked log: a map of four registers for one client is formatted, and takes `put 3 77` and then `get 3`.
-use crate::ops::{MAGIC, back, whole, word};
+use pb_device_fixtures::{MAGIC, back, whole, word, zeros};
 use pb_layout::Header;
 use pb_object::{Kept, Kind, Op, Reply};
 use pb_pmem::{Line, LogOp};
@@ -80,10 +80,6 @@ pub fn record(round: u64) -> [Line; 10] {
         1 => [first, put, zero, zero, zero, zero, zero, zero, zero, last],
         _ => [first, get, put, zero, zero, zero, zero, zero, zero, last],
     }
-}
-
-fn zeros(line: u32) -> LogOp {
-    whole(line, [0; 8])
 }
 
 /// The 49 operations, in their order.

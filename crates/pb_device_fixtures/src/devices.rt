@@ -1,9 +1,8 @@
-//! Logs that begin as the worked one, and devices to which their operations were done.
+//! Devices to which operations were done, and devices that are to fail.
 ghost use Rattle.std.specs.Prelude.{◌↔◌, IsTrue};
 ghost use Rattle.pb_pmem.specs.Operations.{IsWithin};
 
-use crate::worked_log::worked;
-use pb_image::Image;
+use pb_image::{Call, Fail, How, Image};
 use pb_pmem::{LINES, LogOp, make};
 use std::alloc::{AllocError, Global};
 
@@ -30,15 +29,19 @@ pub fn made(alloc: Global, ops: &[LogOp], room: u32) -> Result<Image, AllocError
     Ok(device)
 }
 
-/// The first of the worked operations, and then these.
-pub fn log_with(alloc: Global, count: usize, more: &[LogOp]) -> Result<Vec<LogOp>, AllocError> {
-    let mut ops = worked().to_vec(alloc)?;
-    ops.truncate(count);
-    ops.extend_from_slice(more)?;
-    Ok(ops)
-}
-
-/// A device of zeros to which the first of the worked operations were done.
-pub fn worked_device(alloc: Global, count: usize) -> Result<Image, AllocError> {
-    made(alloc, &log_with(alloc, count, &[])?, 64)
+/// Lets a device fail in this way at these calls of a kind, counted from now on, and at no other call.
+pub fn failing_at(
+    alloc: Global,
+    device: &mut Image,
+    call: Call,
+    calls: &[u64],
+    how: How,
+) -> Result<(), AllocError> {
+    let mut fails = Vec::new(alloc);
+    for nth in calls {
+        let nth = *nth;
+        fails.push(Fail { call, nth, how })?;
+    }
+    device.failing(fails);
+    Ok(())
 }

@@ -27,3 +27,8 @@ pub fn back(first: u32, count: u32) -> LogOp
 {
     LogOp::Back { first, count }
 }
+
+/// A write of zeros to a whole line.
+pub fn zeros(line: u32) -> LogOp {
+    whole(line, [0; 8])
+}
