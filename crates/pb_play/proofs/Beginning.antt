@@ -36,22 +36,24 @@ use Rattle.pb_engine.proofs.Served.{answered_from-none, answered_from-more}
 use Rattle.pb_queue.proofs.AnsweredRequests.{clients_of_answers}
 use Rattle.pb_play.specs.declared.device.Device.{Device}
 use Rattle.pb_play.specs.declared.memory.Memory.{Memory as CodeMemory}
-use Rattle.pb_play.specs.declared.seat.Seat.{Seat}
+use Rattle.pb_round_play.specs.declared.seat.Seat.{Seat}
 use Rattle.pb_play.specs.declared.work.Part.TheVariants.{AtNumber}
 use Rattle.pb_play.specs.declared.work.Work.TheVariants.{Scanning}
 use Rattle.pb_play.specs.declared.world.World.{World as CodeWorld}
 use Rattle.pb_play.specs.Device.{ShowsProgress}
 use Rattle.pb_core.specs.Play.{IsCallable, IsReady, IsPlayedPlan, silently}
 use Rattle.pb_engine.specs.Operations.{cell_ops}
-use Rattle.pb_play.specs.Rounds.{RepeatsRows, with_rows, asks_of, MayBegin, MakesRecord}
-use Rattle.pb_play.specs.Seats.{begins_round, seat_at}
+use Rattle.pb_round_play.specs.Rounds.{with_rows, MayBegin, MakesRecord}
+use Rattle.pb_play.specs.Rounds.{RepeatsRows, asks_of}
+use Rattle.pb_round_play.specs.Seats.{seat_at}
+use Rattle.pb_play.specs.Seats.{begins_round}
 use Rattle.pb_play.specs.Shown.{ShowsSeat, rows_for, IsRowOf, ShowsMemory}
 use Rattle.pb_play.specs.Worlds.{ShowsWorld, GoesOn}
 use Rattle.pb_play.proofs.Clients.{clients_few}
 use Rattle.pb_play.proofs.Fitting.{header_after}
-use Rattle.pb_play.proofs.NextRecords.{round_count, counted_side}
+use Rattle.pb_round_play.proofs.NextRecords.{round_count, counted_side}
 use Rattle.pb_play.proofs.NextRows.{shows_next, row_next}
-use Rattle.pb_play.proofs.Rows.{length-rows}
+use Rattle.pb_round_play.proofs.Rows.{length-rows}
 use Rattle.pb_play.proofs.RoundPlans.{is_planned, is_played_plan}
 use Rattle.pb_play.proofs.Scanning.{works_at}
 use Rattle.pb_play.proofs.Silently.{no_call}

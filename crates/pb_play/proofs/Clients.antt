@@ -12,11 +12,12 @@ use Rattle.pb_core.specs.Memory.{Memory, with_at, with_client, clients_of, shown
 use Rattle.pb_core.specs.WordMoves.{IsWordStep}
 use Rattle.pb_core.proofs.Basics.{with_at-same, with_at-other}
 use Rattle.pb_play.specs.declared.memory.Memory.{Memory as CodeMemory}
-use Rattle.pb_play.specs.declared.seat.Row.{Row}
-use Rattle.pb_play.specs.declared.seat.Seat.{Seat}
-use Rattle.pb_play.specs.declared.seat.Stage.{Stage}
+use Rattle.pb_round_play.specs.declared.seat.Row.{Row}
+use Rattle.pb_round_play.specs.declared.seat.Seat.{Seat}
+use Rattle.pb_round_play.specs.declared.seat.Stage.{Stage}
 use Rattle.pb_play.specs.Maps.{stage_of}
-use Rattle.pb_play.specs.Seats.{no_seat, seat_at, seat_of, with_seat, goes_to}
+use Rattle.pb_round_play.specs.Seats.{no_seat, seat_at}
+use Rattle.pb_play.specs.Seats.{seat_of, with_seat, goes_to}
 use Rattle.pb_play.specs.Shown.{ShowsSeat, rows_for, ShowsClients, IsRowOf, ShowsAhead, ShowsMemory}
 use Rattle.pb_play.specs.Steps.{StepsTo}
 

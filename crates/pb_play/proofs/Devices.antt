@@ -14,7 +14,8 @@ use Rattle.pb_play.specs.declared.calls.Calls.{Calls}
 use Rattle.pb_play.specs.declared.device.Device.{Device}
 use Rattle.pb_play.specs.Device.{IsReached, ShowsProgress, ShowsDevice, MakesCall, FailsCall}
 use Rattle.pb_core.specs.Play.{IsCallable}
-use Rattle.pb_play.specs.Shape.{AreWithin, IsDevice, AddsTo}
+use Rattle.pb_round_play.specs.Shape.{AreWithin}
+use Rattle.pb_play.specs.Shape.{IsDevice, AddsTo}
 
 -- What is added keeps the device whole
 

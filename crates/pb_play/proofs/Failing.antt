@@ -23,13 +23,14 @@ use Rattle.pb_play.specs.declared.memory.Memory.{Memory as CodeMemory}
 use Rattle.pb_play.specs.declared.world.World.{World as CodeWorld}
 use Rattle.pb_play.specs.Device.{ShowsDevice, FailsCall}
 use Rattle.pb_core.specs.Play.{IsCallable}
+use Rattle.pb_round_play.specs.Counts as round_counts
 use Rattle.pb_play.specs.Seats as code
 use Rattle.pb_play.specs.Shown.{ShowsMemory}
 use Rattle.pb_play.specs.Worlds.{ShowsWorld, MovesTo}
 use Rattle.pb_play.proofs.Devices.{due_reached, callable_going}
 
 -- what is in doubt stays so
-shows_failed : {p : CodeMemory} {m : Memory} → ShowsMemory p m → ShowsMemory (code.fails p) (record m { count = code.counted p.count; work = core.Noting m.count (code.counted p.count); engine = core.Doubtful })
+shows_failed : {p : CodeMemory} {m : Memory} → ShowsMemory p m → ShowsMemory (code.fails p) (record m { count = round_counts.counted p.count; work = core.Noting m.count (round_counts.counted p.count); engine = core.Doubtful })
 shows_failed {p} {m} s = record {
   head = s.head;
   valid = s.valid;
@@ -41,7 +42,7 @@ shows_failed {p} {m} s = record {
   count = refl;
   owner = s.owner;
   room = s.room;
-  work = ap (λ (from : ℕ). core.Noting from (code.counted p.count)) s.count;
+  work = ap (λ (from : ℕ). core.Noting from (round_counts.counted p.count)) s.count;
   met = s.met;
   engine = refl;
   ahead = s.ahead;
@@ -49,7 +50,7 @@ shows_failed {p} {m} s = record {
 }
 
 -- the round is dropped
-shows_dropped : {p : CodeMemory} {m : Memory} → ShowsMemory p m → ShowsMemory (code.fails (code.drops p)) (record m { count = code.counted p.count; work = core.Noting m.count (code.counted p.count); ahead = None; engine = core.Doubtful })
+shows_dropped : {p : CodeMemory} {m : Memory} → ShowsMemory p m → ShowsMemory (code.fails (code.drops p)) (record m { count = round_counts.counted p.count; work = core.Noting m.count (round_counts.counted p.count); ahead = None; engine = core.Doubtful })
 shows_dropped {p} {m} s = record {
   head = s.head;
   valid = s.valid;
@@ -61,20 +62,20 @@ shows_dropped {p} {m} s = record {
   count = refl;
   owner = s.owner;
   room = s.room;
-  work = ap (λ (from : ℕ). core.Noting from (code.counted p.count)) s.count;
+  work = ap (λ (from : ℕ). core.Noting from (round_counts.counted p.count)) s.count;
   met = s.met;
   engine = refl;
   ahead = refl;
   rounds = s.rounds;
 }
 
-pub fails_to_settle : {old : CodeWorld} {w : World} {memory : CodeMemory} {calls : Calls} {device : Device} (c side : ℕ) (how : How) → IsWorld w → ShowsWorld old w → w.memory.owner ≡ core.Held c side → c < clients_of w.memory → w.memory.work ≡ core.Settling → Rose old.memory.count (code.counted old.memory.count) → memory ≡ code.fails old.memory → FailsCall how w.tale w.progress calls device → MovesTo w (Fail c how) (record old { memory = memory; calls = calls; device = device }) Went
+pub fails_to_settle : {old : CodeWorld} {w : World} {memory : CodeMemory} {calls : Calls} {device : Device} (c side : ℕ) (how : How) → IsWorld w → ShowsWorld old w → w.memory.owner ≡ core.Held c side → c < clients_of w.memory → w.memory.work ≡ core.Settling → Rose old.memory.count (round_counts.counted old.memory.count) → memory ≡ code.fails old.memory → FailsCall how w.tale w.progress calls device → MovesTo w (Fail c how) (record old { memory = memory; calls = calls; device = device }) Went
 fails_to_settle {old} {w} {memory} c side how is s holds there at rose memory_is fails =
     let m = w.memory in
-    let next : Memory = record m { count = code.counted old.memory.count; work = core.Noting m.count (code.counted old.memory.count) } in
+    let next : Memory = record m { count = round_counts.counted old.memory.count; work = core.Noting m.count (round_counts.counted old.memory.count) } in
     record {
       next = record { memory = next; tale = failed how fails.op w.tale; progress = NoCall };
-      move = (ap code.counted (sym s.memory.count), inl (record { there = there; next = next; move = record { side = side; holds = holds; to = code.counted old.memory.count; at = at; rose = subst (λ (n : ℕ). Rose n (code.counted old.memory.count)) (sym s.memory.count) rose; is = refl }; entry = fails.entry; made = fails.made; op = fails.op; left = fails.left; at = fails.at; is = refl; says = refl }));
+      move = (ap round_counts.counted (sym s.memory.count), inl (record { there = there; next = next; move = record { side = side; holds = holds; to = round_counts.counted old.memory.count; at = at; rose = subst (λ (n : ℕ). Rose n (round_counts.counted old.memory.count)) (sym s.memory.count) rose; is = refl }; entry = fails.entry; made = fails.made; op = fails.op; left = fails.left; at = fails.at; is = refl; says = refl }));
       shows = record {
         memory = subst (λ (q : CodeMemory). ShowsMemory q next) (sym memory_is) (subst (λ (e : core.Engine). ShowsMemory (code.fails old.memory) (record next { engine = e })) (sym (work_suits core.Settling is.memory_is holds at)) (shows_failed s.memory));
         device = fails.shows;
@@ -85,7 +86,7 @@ fails_to_settle {old} {w} {memory} c side how is s holds there at rose memory_is
 -- A call of a round
 
 -- the round is dropped where more calls than the last ones were left, and in doubt where not
-pub fails_to_write : {old : CodeWorld} {w : World} {memory : CodeMemory} {calls : Calls} {device : Device} (c side : ℕ) (how : How) → IsWorld w → ShowsWorld old w → w.memory.owner ≡ core.Held c side → c < clients_of w.memory → w.memory.work ≡ core.Calling → Rose old.memory.count (code.counted old.memory.count)
+pub fails_to_write : {old : CodeWorld} {w : World} {memory : CodeMemory} {calls : Calls} {device : Device} (c side : ℕ) (how : How) → IsWorld w → ShowsWorld old w → w.memory.owner ≡ core.Held c side → c < clients_of w.memory → w.memory.work ≡ core.Calling → Rose old.memory.count (round_counts.counted old.memory.count)
     → (fails : FailsCall how w.tale w.progress calls device)
     → (3 < length (fails.op ∷ fails.left) → memory ≡ code.fails (code.drops old.memory))
     → (length (fails.op ∷ fails.left) ≤ 3 → memory ≡ code.fails old.memory)
@@ -106,7 +107,7 @@ fails_to_write {old} {w} {memory} {calls} {device} c side how is s holds there a
     as_shown = ap (λ (t : Standing). last_calls t writing.round) (sym (shown_is m))
 
     to : ℕ
-    to = code.counted old.memory.count
+    to = round_counts.counted old.memory.count
 
     risen : Rose m.count to
     risen = subst (λ (n : ℕ). Rose n to) (sym s.memory.count) rose
@@ -124,7 +125,7 @@ fails_to_write {old} {w} {memory} {calls} {device} c side how is s holds there a
     stages more rest = record {
       next = record { memory = dropped; tale = failed how fails.op w.tale; progress = NoCall };
       move = (
-        ap code.counted (sym s.memory.count),
+        ap round_counts.counted (sym s.memory.count),
         inr (inl (record {
           there = there;
           next = dropped;
@@ -151,7 +152,7 @@ fails_to_write {old} {w} {memory} {calls} {device} c side how is s holds there a
     commits before whole = record {
       next = record { memory = doubted; tale = failed how fails.op w.tale; progress = NoCall };
       move = (
-        ap code.counted (sym s.memory.count),
+        ap round_counts.counted (sym s.memory.count),
         inr (inr (record {
           there = there;
           next = doubted;

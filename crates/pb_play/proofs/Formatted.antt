@@ -34,11 +34,13 @@ use Rattle.pb_core.specs.Client.{fresh_client, row_word}
 use Rattle.pb_core.specs.Fresh as core
 use Rattle.pb_core.specs.World.{NoCall}
 use Rattle.pb_play.specs.declared.memory.Memory.{Memory as CodeMemory}
-use Rattle.pb_play.specs.declared.seat.Seat.{Seat}
+use Rattle.pb_round_play.specs.declared.seat.Seat.{Seat}
 use Rattle.pb_play.specs.declared.world.World.{World as CodeWorld}
 use Rattle.pb_play.specs.Device.{ShowsProgress}
-use Rattle.pb_play.specs.Seats.{no_row, no_seat, fresh_memory}
-use Rattle.pb_play.specs.Shown.{IsRowOf, ShowsSeat, ShowsMemory, ShowsRounds}
+use Rattle.pb_round_play.specs.Seats.{no_row, no_seat}
+use Rattle.pb_play.specs.Seats.{fresh_memory}
+use Rattle.pb_round_play.specs.Counts.{ShowsRounds}
+use Rattle.pb_play.specs.Shown.{IsRowOf, ShowsSeat, ShowsMemory}
 use Rattle.pb_play.specs.Worlds.{IsBegun}
 use Rattle.pb_play.proofs.Founding.{seat_shown}
 

@@ -23,15 +23,18 @@ use Rattle.pb_layout.proofs.SlotLemmas.{kept_from-empty, kept_from-full, slots_f
 use Rattle.pb_layout.specs.Shape.{IsHeader}
 use Rattle.pb_core.specs.Client.{fresh_client, ask_word, row_word}
 use Rattle.pb_core.specs.Memory.{opened}
-use Rattle.pb_play.specs.declared.memory.Rounds.{Rounds}
-use Rattle.pb_play.specs.declared.seat.Row.{Row}
-use Rattle.pb_play.specs.declared.seat.Seat.{Seat}
+use Rattle.pb_round_play.specs.declared.rounds.Rounds.{Rounds}
+use Rattle.pb_round_play.specs.declared.seat.Row.{Row}
+use Rattle.pb_round_play.specs.declared.seat.Seat.{Seat}
 use Rattle.pb_play.specs.declared.work.Knowledge.TheVariants.{Doubtful}
 use Rattle.pb_play.specs.declared.work.Owner.TheVariants.{Closed}
-use Rattle.pb_play.specs.Found.{found_kept, found_row, row_of_kept, fresh_seat}
+use Rattle.pb_round_play.specs.Seats.{row_of_kept, fresh_seat}
+use Rattle.pb_play.specs.Found.{found_kept, found_row}
 use Rattle.pb_play.specs.Maps.{stored_ask}
-use Rattle.pb_play.specs.Seats.{seat_at, fresh_memory}
-use Rattle.pb_play.specs.Shown.{ShowsSeat, IsRowOf, ShowsRounds, ShowsMemory}
+use Rattle.pb_round_play.specs.Seats.{seat_at}
+use Rattle.pb_play.specs.Seats.{fresh_memory}
+use Rattle.pb_round_play.specs.Counts.{ShowsRounds}
+use Rattle.pb_play.specs.Shown.{ShowsSeat, IsRowOf, ShowsMemory}
 use Rattle.pb_play.proofs.Fitting.{header_after}
 use Rattle.pb_play.proofs.Publishing.{kept_word}
 

@@ -1,4 +1,3 @@
-pub mod Answering
 pub mod Beginning
 pub mod Clients
 pub mod Crashing
@@ -9,18 +8,12 @@ pub mod Formatted
 pub mod Founding
 pub mod Holding
 pub mod Leaving
-pub mod NextRecords
 pub mod NextRows
 pub mod Opening
-pub mod Planning
 pub mod Playing
 pub mod Publishing
-pub mod Queues
-pub mod Rising
 pub mod RoundPlans
-pub mod Rows
 pub mod Scanning
-pub mod Serves
 pub mod Silently
 pub mod Starts
 pub mod Storing

@@ -12,10 +12,13 @@ use Rattle.pb_core.specs.Memory.{Memory, clients_of, shown, round_of_turn}
 use Rattle.pb_core.specs.MemoryParts.{IsMemory}
 use Rattle.pb_core.proofs.Waiting.{turn_rounds}
 use Rattle.pb_play.specs.declared.memory.Memory.{Memory as CodeMemory}
-use Rattle.pb_play.specs.declared.seat.Seat.{Seat}
-use Rattle.pb_play.specs.Maps.{stage_of, stored_ask, row_by, word_of_row}
-use Rattle.pb_play.specs.Rounds.{RepeatsRows, with_row, with_rows}
-use Rattle.pb_play.specs.Seats.{no_row, no_seat, seat_at, seat_of}
+use Rattle.pb_round_play.specs.declared.seat.Seat.{Seat}
+use Rattle.pb_round_play.specs.Seats.{row_by}
+use Rattle.pb_play.specs.Maps.{stage_of, stored_ask, word_of_row}
+use Rattle.pb_round_play.specs.Rounds.{with_row, with_rows}
+use Rattle.pb_play.specs.Rounds.{RepeatsRows}
+use Rattle.pb_round_play.specs.Seats.{no_row, no_seat, seat_at}
+use Rattle.pb_play.specs.Seats.{seat_of}
 use Rattle.pb_play.specs.Shown.{ShowsSeat, IsRowOf, ShowsMemory}
 use Rattle.pb_play.proofs.Waiting.{row_word_is}
 

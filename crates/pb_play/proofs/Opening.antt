@@ -31,7 +31,7 @@ use Rattle.pb_core.proofs.Worlds.{fits_in, closed_suits, shown_is}
 use Rattle.pb_play.specs.declared.calls.Calls.{Calls}
 use Rattle.pb_play.specs.declared.device.Device.{Device}
 use Rattle.pb_play.specs.declared.memory.Memory.{Memory as CodeMemory}
-use Rattle.pb_play.specs.declared.seat.Stage.TheVariants.{Storing}
+use Rattle.pb_round_play.specs.declared.seat.Stage.TheVariants.{Storing}
 use Rattle.pb_play.specs.declared.world.World.{World as CodeWorld}
 use Rattle.pb_play.specs.Device.{ShowsProgress, ShowsDevice, FailsCall}
 use Rattle.pb_core.specs.Play.{IsCallable, IsAtOnce, PlaysMove, at_once, silently}

@@ -24,16 +24,20 @@ use Rattle.pb_core.proofs.Publishing.{the_filled}
 use Rattle.pb_core.proofs.Turns.{work_suits}
 use Rattle.pb_core.proofs.Waiting.{turn_rounds}
 use Rattle.pb_play.specs.declared.memory.Memory.{Memory as CodeMemory}
-use Rattle.pb_play.specs.declared.memory.Rounds.{Rounds}
-use Rattle.pb_play.specs.declared.seat.Row.{Row}
-use Rattle.pb_play.specs.declared.seat.Seat.{Seat}
-use Rattle.pb_play.specs.declared.seat.Stage.TheVariants.{Idle, Looking}
+use Rattle.pb_round_play.specs.declared.rounds.Rounds.{Rounds}
+use Rattle.pb_round_play.specs.declared.seat.Row.{Row}
+use Rattle.pb_round_play.specs.declared.seat.Seat.{Seat}
+use Rattle.pb_round_play.specs.declared.seat.Stage.TheVariants.{Idle, Looking}
 use Rattle.pb_play.specs.declared.work.Owner.TheVariants.{Held}
 use Rattle.pb_play.specs.declared.work.Work.TheVariants.{Filling, Noting, GivingUp}
 use Rattle.pb_play.specs.Maps.{word_of_row}
+use Rattle.pb_round_play.specs.Counts as round_counts
 use Rattle.pb_play.specs.Seats as code
-use Rattle.pb_play.specs.Seats.{no_seat, seat_at, seat_of, counted, row_with, fills, stores_row, is_answered, goes_to, notes, gives_up}
-use Rattle.pb_play.specs.Shown.{ShowsSeat, rows_for, ShowsClients, IsRowOf, ShowsAhead, ShowsRounds, side_ahead, ShowsMemory}
+use Rattle.pb_round_play.specs.Seats.{no_seat, seat_at}
+use Rattle.pb_round_play.specs.Counts.{counted}
+use Rattle.pb_play.specs.Seats.{seat_of, row_with, fills, stores_row, is_answered, goes_to, notes, gives_up}
+use Rattle.pb_round_play.specs.Counts.{ShowsRounds}
+use Rattle.pb_play.specs.Shown.{ShowsSeat, rows_for, ShowsClients, IsRowOf, ShowsAhead, side_ahead, ShowsMemory}
 use Rattle.pb_play.specs.Steps.{FitsWords, StepsWord}
 use Rattle.pb_play.proofs.Clients.{clients_few, ahead_at, shows_client, shows_stage, word_step}
 use Rattle.pb_play.proofs.Scanning.{holds_turn, works_at}
@@ -244,13 +248,13 @@ counted_is : (count : ℕ) → count + 1 ≤ last_count → count + 1 ≡ counte
 counted_is count fits = omega (arith, fits)
 
 -- the counts of rounds after one more
-pub shows_rounds : (s : Standing) (round : Round) (rounds : Rounds) → IsLegalRound s round → length s.rounds ≡ side_count s.kind → ((side : ℕ) → rounds_of (after_round s round) side ≤ last_count) → ShowsRounds s rounds → ShowsRounds (after_round s round) (code.with_round round.side rounds)
+pub shows_rounds : (s : Standing) (round : Round) (rounds : Rounds) → IsLegalRound s round → length s.rounds ≡ side_count s.kind → ((side : ℕ) → rounds_of (after_round s round) side ≤ last_count) → ShowsRounds s rounds → ShowsRounds (after_round s round) (round_counts.with_round round.side rounds)
 shows_rounds s round rounds legal sides fits shows = go round.side refl
   where
     own : (side : ℕ) → round.side ≡ side → rounds_of (after_round s round) side ≡ rounds_of s side + 1
     own side is = subst (λ (e : ℕ). rounds_of (after_round s round) e ≡ rounds_of s e + 1) is (next_rounds s round legal sides)
 
-    go : (side : ℕ) → round.side ≡ side → ShowsRounds (after_round s round) (code.with_round side rounds)
+    go : (side : ℕ) → round.side ≡ side → ShowsRounds (after_round s round) (round_counts.with_round side rounds)
     go zero is = record {
       first = own 0 is ∙ (counted_is (rounds_of s 0) (omega (arith, own 0 is, fits 0)) ∙ ap counted shows.first);
       second = next_rounds_other s round 1 (λ same. absurd (omega (arith, same, is))) ∙ shows.second;

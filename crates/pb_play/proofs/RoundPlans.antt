@@ -43,7 +43,7 @@ use Rattle.pb_core.specs.Play.{ListsRising, IsPlayedPlan}
 use Rattle.pb_engine.specs.Operations.{put_ops, puts_from, cell_ops}
 use Rattle.pb_queue.proofs.CellExits.{cells_there}
 use Rattle.pb_queue.proofs.PutCells.{puts_from-none, puts_from-more}
-use Rattle.pb_play.specs.Rounds.{StepsQueue}
+use Rattle.pb_round_play.specs.Rounds.{StepsQueue}
 
 -- The cells
 

@@ -15,7 +15,7 @@ use Rattle.pb_core.specs.WordMoves.{due_number, scanned, passing_over, meeting, 
 use Rattle.pb_core.proofs.Scans.{the_scan, known_shown}
 use Rattle.pb_core.proofs.Waiting.{turn_rounds}
 use Rattle.pb_play.specs.declared.memory.Memory.{Memory as CodeMemory}
-use Rattle.pb_play.specs.declared.seat.Row.{Row}
+use Rattle.pb_round_play.specs.declared.seat.Row.{Row}
 use Rattle.pb_play.specs.declared.work.Owner.TheVariants.{Held}
 use Rattle.pb_play.specs.declared.work.Part.TheVariants.{AtNumber, AtCode, AtFirst, AtSecond, AtThird}
 use Rattle.pb_play.specs.declared.work.Work.{Work}

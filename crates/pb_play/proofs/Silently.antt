@@ -22,12 +22,13 @@ use Rattle.pb_core.proofs.Worlds.{fits_in}
 use Rattle.pb_play.specs.declared.calls.Calls.{Calls}
 use Rattle.pb_play.specs.declared.device.Device.{Device}
 use Rattle.pb_play.specs.declared.memory.Memory.{Memory as CodeMemory}
-use Rattle.pb_play.specs.declared.memory.Rounds.{Rounds}
+use Rattle.pb_round_play.specs.declared.rounds.Rounds.{Rounds}
 use Rattle.pb_play.specs.declared.world.World.{World as CodeWorld}
 use Rattle.pb_play.specs.Device.{ShowsProgress, ShowsDevice}
 use Rattle.pb_core.specs.Play.{IsCallable, IsReady, IsCalling, at_once, silently}
 use Rattle.pb_play.specs.Seats as code
-use Rattle.pb_play.specs.Shown.{ShowsRounds, side_ahead, ShowsMemory}
+use Rattle.pb_round_play.specs.Counts.{ShowsRounds}
+use Rattle.pb_play.specs.Shown.{side_ahead, ShowsMemory}
 use Rattle.pb_play.specs.Steps.{FitsWords}
 use Rattle.pb_play.specs.Worlds.{ShowsWorld, IsDue, GoesOn}
 use Rattle.pb_play.proofs.Fitting.{header_after, world_fits}

@@ -16,12 +16,13 @@ use Rattle.pb_core.specs.WordMoves.{go_to, answered, steps_to, storing, announci
 use Rattle.pb_core.proofs.Basics.{with_at-same, with_at-other}
 use Rattle.pb_core.proofs.Turns.{free_suits, taken_free}
 use Rattle.pb_play.specs.declared.memory.Memory.{Memory as CodeMemory}
-use Rattle.pb_play.specs.declared.seat.Seat.{Seat}
-use Rattle.pb_play.specs.declared.seat.Stage.TheVariants.{Idle, Storing, Looking, Confirming, Taking, Holding}
+use Rattle.pb_round_play.specs.declared.seat.Seat.{Seat}
+use Rattle.pb_round_play.specs.declared.seat.Stage.TheVariants.{Idle, Storing, Looking, Confirming, Taking, Holding}
 use Rattle.pb_play.specs.declared.work.Knowledge.{Knowledge}
 use Rattle.pb_play.specs.declared.work.Knowledge.TheVariants.{Resting, Recorded, Writing, Doubtful}
 use Rattle.pb_play.specs.Maps.{stored_ask, work_of, engine_of}
-use Rattle.pb_play.specs.Seats.{seat_of, op_with, stores, announces, is_answered, counted, first_work, takes}
+use Rattle.pb_round_play.specs.Counts.{counted}
+use Rattle.pb_play.specs.Seats.{seat_of, op_with, stores, announces, is_answered, first_work, takes}
 use Rattle.pb_play.specs.Shown.{ShowsSeat, rows_for, ShowsMemory}
 use Rattle.pb_play.specs.Steps.{StepsTo, StepsWord}
 use Rattle.pb_play.proofs.Clients.{shows_client, shows_words, shows_stage, word_step}

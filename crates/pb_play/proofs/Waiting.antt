@@ -10,10 +10,11 @@ use Rattle.pb_core.specs.Client as core
 use Rattle.pb_core.specs.Memory.{Memory, clients_of, round_of_turn}
 use Rattle.pb_core.specs.WordMoves.{go_to, sees, own_row, looking, matching, lacking_held, lacking_free, loading_code, loading_value, loading_extra, finding_new, finding_held, missing}
 use Rattle.pb_play.specs.declared.memory.Memory.{Memory as CodeMemory}
-use Rattle.pb_play.specs.declared.seat.Row.{Row}
-use Rattle.pb_play.specs.declared.seat.Stage.{Stage}
-use Rattle.pb_play.specs.declared.seat.Stage.TheVariants.{Looking, LoadsNumber, LoadsCode, LoadsValue, LoadsExtra, Confirming, Lacking, Taking}
-use Rattle.pb_play.specs.Maps.{stage_of, row_by, word_of_row}
+use Rattle.pb_round_play.specs.declared.seat.Row.{Row}
+use Rattle.pb_round_play.specs.declared.seat.Stage.{Stage}
+use Rattle.pb_round_play.specs.declared.seat.Stage.TheVariants.{Looking, LoadsNumber, LoadsCode, LoadsValue, LoadsExtra, Confirming, Lacking, Taking}
+use Rattle.pb_round_play.specs.Seats.{row_by}
+use Rattle.pb_play.specs.Maps.{stage_of, word_of_row}
 use Rattle.pb_play.specs.Seats.{seat_of, goes_to}
 use Rattle.pb_play.specs.Shown.{ShowsMemory}
 use Rattle.pb_play.specs.Steps.{StepsWord}

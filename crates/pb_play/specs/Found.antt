@@ -4,24 +4,18 @@ use Rattle.pb_pmem.specs.declared.line.Line.{Line}
 use Rattle.pb_object.specs.declared.kind.Kind.{Kind}
 use Rattle.pb_object.specs.declared.kind.Kind.TheVariants.{Map, Stack, Heap, Queue}
 use Rattle.pb_object.specs.declared.request.Kept.{Kept}
-use Rattle.pb_object.specs.Request.{no_op}
 use Rattle.pb_layout.specs.ClientLine.{kept_in}
 use Rattle.pb_layout.specs.Record.{slot_line_at}
 use Rattle.pb_layout.specs.Represents.{record_in_use}
 use Rattle.pb_layout.specs.Slots.{newer_of}
 use Rattle.pb_layout.specs.declared.header.Header.{Header}
-use Rattle.pb_core.specs.Client.{no_ask}
-use Rattle.pb_play.specs.declared.memory.Rounds.{Rounds}
-use Rattle.pb_play.specs.declared.seat.Row.{Row}
-use Rattle.pb_play.specs.declared.seat.Seat.{Seat}
-use Rattle.pb_play.specs.declared.seat.Stage.TheVariants.{Idle}
+use Rattle.pb_round_play.specs.declared.rounds.Rounds.{Rounds}
+use Rattle.pb_round_play.specs.declared.seat.Row.{Row}
+use Rattle.pb_round_play.specs.Seats.{row_of_kept}
 
 -- the newest request in a client's slots of a side
 abbrev pub found_kept : List Line → Header → ℕ → ℕ → ℕ → Kept
 found_kept lines head side rounds client = kept_in (slot_line_at (record_in_use lines head side rounds) client 0)
-
-abbrev pub row_of_kept : Kept → Row
-row_of_kept kept = record { number = kept.number; reply = kept.reply }
 
 -- a client's last recorded request, as a row
 abbrev pub found_row : Kind → List Line → Header → Rounds → ℕ → Row
@@ -29,7 +23,3 @@ found_row Map lines head rounds client = row_of_kept (found_kept lines head 0 ro
 found_row Stack lines head rounds client = row_of_kept (found_kept lines head 0 rounds.first client)
 found_row Heap lines head rounds client = row_of_kept (found_kept lines head 0 rounds.first client)
 found_row Queue lines head rounds client = row_of_kept (newer_of (found_kept lines head 0 rounds.first client) (found_kept lines head 1 rounds.second client))
-
--- a client that has asked for nothing since
-abbrev pub fresh_seat : Row → Seat
-fresh_seat row = record { stage = Idle; ask = no_ask; last = row.number; number = 0; op = no_op; even = row; odd = row; ahead = row }

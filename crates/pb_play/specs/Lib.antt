@@ -1,11 +1,9 @@
 pub mod Backs
 pub mod Device
 pub mod Found
-pub mod Items
 pub mod Maps
 pub mod Rounds
 pub mod Seats
-pub mod Serving
 pub mod Shape
 pub mod Shown
 pub mod Steps

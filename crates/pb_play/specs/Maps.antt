@@ -1,10 +1,10 @@
 -- What the enums of the code are in the core.
 use Rattle.std.specs.Prelude.{ℕ, zero, suc, List}
 use Rattle.pb_object.specs.declared.request.Ask.{Ask}
-use Rattle.pb_play.specs.declared.seat.Row.{Row}
-use Rattle.pb_play.specs.declared.seat.Seat.{Seat}
-use Rattle.pb_play.specs.declared.seat.Stage.{Stage}
-use Rattle.pb_play.specs.declared.seat.Stage.TheVariants.{Idle, Storing, Looking, LoadsNumber, LoadsCode, LoadsValue, LoadsExtra, Confirming, Lacking, Taking, Holding}
+use Rattle.pb_round_play.specs.declared.seat.Row.{Row}
+use Rattle.pb_round_play.specs.declared.seat.Seat.{Seat}
+use Rattle.pb_round_play.specs.declared.seat.Stage.{Stage}
+use Rattle.pb_round_play.specs.declared.seat.Stage.TheVariants.{Idle, Storing, Looking, LoadsNumber, LoadsCode, LoadsValue, LoadsExtra, Confirming, Lacking, Taking, Holding}
 use Rattle.pb_play.specs.declared.work.Knowledge.{Knowledge}
 use Rattle.pb_play.specs.declared.work.Knowledge.TheVariants.{Resting, Recorded, Writing, Doubtful}
 use Rattle.pb_play.specs.declared.work.Owner.{Owner}
@@ -56,11 +56,6 @@ engine_of Resting = core_memory.Resting
 engine_of Recorded = core_memory.Recorded
 engine_of Writing = core_memory.Writing
 engine_of Doubtful = core_memory.Doubtful
-
--- a client's row, and the words of one
-abbrev pub row_by : Seat → ℕ → Row
-row_by seat zero = seat.even
-row_by seat (suc more) = seat.odd
 
 abbrev pub word_of_row : Row → ℕ → ℕ
 word_of_row row zero = row.number

@@ -1,33 +1,24 @@
 -- Changes of one client among all, in code.
-use Rattle.std.specs.Prelude.{ℕ, zero, suc, ◌+◌, ◌-◌, ◌*◌, ◌%◌, min, List, Option, Some, None, nat_lt, replicate, slice_index_or, slice_set, if◌then◌else◌}
+use Rattle.std.specs.Prelude.{ℕ, zero, suc, ◌+◌, ◌-◌, ◌*◌, ◌%◌, Option, Some, None, nat_lt, replicate, slice_set, if◌then◌else◌}
 use Rattle.pb_core.specs.Client.{no_ask}
-use Rattle.pb_object.specs.Request.{no_op, no_reply}
 use Rattle.pb_object.specs.declared.request.Ask.{Ask}
 use Rattle.pb_object.specs.declared.request.Op.{Op}
 use Rattle.pb_core.specs.Memory.{round_of_turn, side_of}
 use Rattle.pb_layout.specs.declared.header.Header.{Header}
-use Rattle.pb_pmem.specs.Count.{last_count}
+use Rattle.pb_round_play.specs.Counts.{counted, with_round}
+use Rattle.pb_round_play.specs.Seats.{no_seat, seat_at}
 use Rattle.pb_play.specs.declared.memory.Memory.{Memory}
-use Rattle.pb_play.specs.declared.memory.Rounds.{Rounds}
-use Rattle.pb_play.specs.declared.seat.Row.{Row}
-use Rattle.pb_play.specs.declared.seat.Seat.{Seat}
-use Rattle.pb_play.specs.declared.seat.Stage.{Stage}
-use Rattle.pb_play.specs.declared.seat.Stage.TheVariants.{Idle, Storing, Looking, Holding}
+use Rattle.pb_round_play.specs.declared.rounds.Rounds.{Rounds}
+use Rattle.pb_round_play.specs.declared.seat.Row.{Row}
+use Rattle.pb_round_play.specs.declared.seat.Seat.{Seat}
+use Rattle.pb_round_play.specs.declared.seat.Stage.{Stage}
+use Rattle.pb_round_play.specs.declared.seat.Stage.TheVariants.{Idle, Storing, Looking, Holding}
 use Rattle.pb_play.specs.declared.work.Knowledge.{Knowledge}
 use Rattle.pb_play.specs.declared.work.Knowledge.TheVariants.{Resting, Recorded, Writing, Doubtful}
 use Rattle.pb_play.specs.declared.work.Owner.TheVariants.{Free, Held}
 use Rattle.pb_play.specs.declared.work.Part.TheVariants.{AtNumber}
 use Rattle.pb_play.specs.declared.work.Work.{Work}
 use Rattle.pb_play.specs.declared.work.Work.TheVariants.{NoWork, Settling, Scanning, Calling, Filling, Noting, GivingUp}
-
-abbrev pub no_row : Row
-no_row = record { number = 0; reply = no_reply }
-
-abbrev pub no_seat : Seat
-no_seat = record { stage = Idle; ask = no_ask; last = 0; number = 0; op = no_op; even = no_row; odd = no_row; ahead = no_row }
-
-abbrev pub seat_at : List Seat → ℕ → Seat
-seat_at seats client = slice_index_or seats client no_seat
 
 abbrev pub seat_of : Memory → ℕ → Seat
 seat_of m client = seat_at m.seats client
@@ -58,10 +49,6 @@ announces client m = with_seat client (record (seat_of m client) { stage = Looki
 -- it knows that its request is recorded
 abbrev pub is_answered : ℕ → Memory → Memory
 is_answered client m = with_seat client (record (seat_of m client) { stage = Idle; last = (seat_of m client).ask.number }) m
-
--- one more, up to the last value of a word
-abbrev pub counted : ℕ → ℕ
-counted count = min (count + 1) last_count
 
 -- what the holder begins with
 abbrev pub first_work : Knowledge → Work
@@ -107,12 +94,6 @@ fills turn word seat = fills_by (round_of_turn turn % 2) word seat
 
 abbrev pub stores_row : ℕ → ℕ → Memory → Memory
 stores_row client word m = at_work (Filling (4 * client + word + 1)) (with_seat client (fills m.turn word (seat_of m client)) m)
-
--- one more round of a side
-abbrev pub with_round : ℕ → Rounds → Rounds
-with_round zero rounds = record rounds { first = counted rounds.first }
-with_round (suc zero) rounds = record rounds { second = counted rounds.second }
-with_round (suc (suc more)) rounds = rounds
 
 abbrev pub with_ahead : Option ℕ → Rounds → Rounds
 with_ahead None rounds = rounds

@@ -1,18 +1,13 @@
 -- What holds of the code's device and calls at each moment, whatever they show.
-use Rattle.std.specs.Prelude.{◌≡◌, ◌+◌, ◌^◌, ◌<◌, ◌≤◌, List, ◌++◌, length, IsTrue, vec_capacity}
-use Rattle.std.specs.List.{list_all}
+use Rattle.std.specs.Prelude.{◌≡◌, ◌+◌, ◌^◌, ◌<◌, ◌≤◌, List, ◌++◌, length, vec_capacity}
 use Rattle.pb_pmem.specs.declared.line.TheConstants.{LINES}
 use Rattle.pb_pmem.specs.declared.log.LogOp.{LogOp}
 use Rattle.pb_pmem.specs.Contents.{contents}
-use Rattle.pb_image.specs.State.{is_within}
 use Rattle.pb_layout.specs.declared.header.Header.{Header}
 use Rattle.pb_layout.specs.Header.{record_length}
+use Rattle.pb_round_play.specs.Shape.{AreWithin}
 use Rattle.pb_play.specs.declared.calls.Calls.{Calls}
 use Rattle.pb_play.specs.declared.device.Device.{Device}
-
--- operations that lie within the device
-abbrev pub AreWithin : List LogOp → Type 0
-AreWithin ops = IsTrue (list_all is_within ops)
 
 -- a whole device, whose log has room
 pub record IsDevice (d : Device) : Type 0 where

@@ -2,15 +2,15 @@
 use Rattle.std.specs.Prelude.{◌≡◌, ℕ, ◌<◌, ◌≤◌, length, take, Option, Some, None, option_map}
 use Rattle.pb_object.specs.declared.request.Kept.{Kept}
 use Rattle.pb_object.specs.History.{Round, after_round}
-use Rattle.pb_object.specs.Standing.{Standing, newest, newest_of, rounds_of}
+use Rattle.pb_object.specs.Standing.{Standing, newest, newest_of}
 use Rattle.pb_layout.specs.Represents.{header_for}
 use Rattle.pb_layout.specs.Shape.{IsHeader}
 use Rattle.pb_core.specs.Client.{Client, ask_word}
 use Rattle.pb_core.specs.Memory.{Memory, clients_of, shown}
 use Rattle.pb_play.specs.declared.memory.Memory.{Memory as CodeMemory}
-use Rattle.pb_play.specs.declared.memory.Rounds.{Rounds}
-use Rattle.pb_play.specs.declared.seat.Row.{Row}
-use Rattle.pb_play.specs.declared.seat.Seat.{Seat}
+use Rattle.pb_round_play.specs.Counts.{ShowsRounds}
+use Rattle.pb_round_play.specs.declared.seat.Row.{Row}
+use Rattle.pb_round_play.specs.declared.seat.Seat.{Seat}
 use Rattle.pb_play.specs.Maps.{stage_of, owner_of, work_of, engine_of, word_of_row, stored_ask}
 use Rattle.pb_play.specs.Seats.{seat_of}
 
@@ -40,11 +40,6 @@ pub record IsRowOf (kept : Kept) (row : Row) : Type 0 where
 abbrev pub ShowsAhead : ℕ → Standing → Option Round → (ℕ → Seat) → Type 0
 ShowsAhead clients s None seats = Unit {0}
 ShowsAhead clients s (Some round) seats = (c : ℕ) → c < clients → IsRowOf (newest_of (after_round s round) c) (seats c).ahead
-
--- how many rounds of each side there are
-pub record ShowsRounds (s : Standing) (rounds : Rounds) : Type 0 where
-  pub first : rounds_of s 0 ≡ rounds.first
-  pub second : rounds_of s 1 ≡ rounds.second
 
 abbrev pub side_ahead : Option Round → Option ℕ
 side_ahead ahead = option_map (λ round. round.side) ahead

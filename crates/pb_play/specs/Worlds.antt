@@ -18,7 +18,7 @@ use Rattle.pb_core.specs.World.{InCall, World}
 use Rattle.pb_core.specs.Play.{IsCallable, IsReady, IsCalling, ComesBefore, PlaysMove, NextPlayed}
 use Rattle.pb_play.specs.declared.world.World.{World as CodeWorld}
 use Rattle.pb_play.specs.Device.{ShowsDevice}
-use Rattle.pb_play.specs.Items.{ItemsFit}
+use Rattle.pb_round_play.specs.Items.{ItemsFit}
 use Rattle.pb_play.specs.Shape.{IsDevice, IsCalls}
 use Rattle.pb_play.specs.Shown.{ShowsMemory}
 

@@ -6,16 +6,17 @@ ghost use Rattle.pb_core.specs.World.{World as CoreWorld};
 ghost use Rattle.pb_pmem.specs.Count.{Rose};
 ghost use Rattle.pb_core.specs.declared.event.Event.{Event};
 ghost use Rattle.pb_core.specs.Play.{IsCallable};
-ghost use Rattle.pb_play.specs.Seats.{counted, with_ahead, recorded, begins_scan, settled, fails, drops};
+ghost use Rattle.pb_round_play.specs.Counts.{counted};
+ghost use Rattle.pb_play.specs.Seats.{with_ahead, recorded, begins_scan, settled, fails, drops};
 ghost use Rattle.pb_play.specs.Worlds.{IsBuilt, IsHeldFor, HasRoom, LosesOneAtMost, ShowsWorld, GoesOn, CallsNext, IsDue, MovesTo};
 
-use crate::memory::{Memory, Rounds};
+use crate::memory::Memory;
 use crate::next::begin_round;
-use crate::settle::plan_settling;
 use crate::work::{Knowledge, Owner, Part, Work};
 use crate::world::World;
 use pb_core::Stepped;
 use pb_image::How;
+use pb_round_play::{Rounds, plan_settling};
 
 /// How many calls of a store come from its index word on.
 const LAST_CALLS: usize = 3;

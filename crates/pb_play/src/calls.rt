@@ -22,7 +22,8 @@ pub struct Calls {
 }
 
 impl Calls {
-    ghost use Rattle.pb_play.specs.Shape.{IsCalls, IsDevice, AreWithin};
+    ghost use Rattle.pb_round_play.specs.Shape.{AreWithin};
+    ghost use Rattle.pb_play.specs.Shape.{IsCalls, IsDevice};
     ghost use Rattle.pb_play.specs.Device.{ShowsDevice, MakesCall, FailsCall};
     ghost use Rattle.pb_core.specs.Play.{IsCallable};
 

@@ -11,7 +11,8 @@ ghost use Rattle.pb_core.specs.DeviceParts.{IsWorld};
 ghost use Rattle.pb_core.specs.Possible.{MayCrash};
 ghost use Rattle.pb_core.specs.World.{World as CoreWorld};
 ghost use Rattle.pb_play.specs.Backs.{HasLastBacks, last_back};
-ghost use Rattle.pb_play.specs.Shape.{IsDevice, AreWithin};
+ghost use Rattle.pb_round_play.specs.Shape.{AreWithin};
+ghost use Rattle.pb_play.specs.Shape.{IsDevice};
 ghost use Rattle.pb_object.specs.Standing.{Standing};
 ghost use Rattle.pb_object.specs.History.{History, Entry, state_after};
 ghost use Rattle.pb_layout.specs.Recovered.{Represents};
@@ -20,21 +21,21 @@ ghost use Rattle.pb_core.specs.Memory.{opened};
 ghost use Rattle.pb_pmem.specs.Lines.{word_of};
 ghost use Rattle.pb_object.specs.Standing.{side_count};
 ghost use Rattle.pb_layout.specs.Slots.{newer_of};
-ghost use Rattle.pb_play.specs.Found.{found_row, found_kept, fresh_seat};
-ghost use Rattle.pb_play.specs.Seats.{seat_at};
+ghost use Rattle.pb_round_play.specs.Seats.{fresh_seat};
+ghost use Rattle.pb_play.specs.Found.{found_row, found_kept};
+ghost use Rattle.pb_round_play.specs.Seats.{seat_at};
 ghost use Rattle.pb_play.specs.Shown.{ShowsMemory};
 ghost use Rattle.pb_play.specs.Worlds.{IsBuilt, ShowsWorld, HasStepped};
 
 use crate::device::{Device, apply, filled};
-use crate::memory::{Memory, Rounds};
-use crate::place::record;
-use crate::seat::{Row, Seat};
+use crate::memory::Memory;
 use crate::work::{Knowledge, Owner};
 use crate::world::World;
 use pb_core::Stepped;
 use pb_layout::{Header, kept_in_slot};
 use pb_object::{Kept, Kind};
 use pb_pmem::{Line, LogOp};
+use pb_round_play::{Rounds, Row, Seat, record};
 
 fn is_mark(op: &LogOp) -> bool
     ensures { result ≡ is_mark op.now }

@@ -24,7 +24,8 @@ pub struct Device {
 }
 
 impl Device {
-    ghost use Rattle.pb_play.specs.Shape.{IsDevice, AreWithin, AddsTo};
+    ghost use Rattle.pb_round_play.specs.Shape.{AreWithin};
+    ghost use Rattle.pb_play.specs.Shape.{IsDevice, AddsTo};
 
     /// A device that holds these lines, with room for so many operations.
     pub fn fresh(alloc: Global, base: Vec<Line>, room: u32) -> Result<Self, AllocError>

@@ -9,23 +9,19 @@ ghost use Rattle.pb_core.specs.Memory.{Held, clients_of};
 ghost use Rattle.pb_core.specs.World.{World as CoreWorld};
 ghost use Rattle.pb_engine.specs.Asks.{asked_round};
 ghost use Rattle.pb_engine.specs.Next.{IsBegun};
-ghost use Rattle.pb_play.specs.Items.{ItemsFit};
-ghost use Rattle.pb_play.specs.Rounds.{RepeatsRows, asks_of, MayBegin, MakesRecord};
+ghost use Rattle.pb_round_play.specs.Items.{ItemsFit};
+ghost use Rattle.pb_round_play.specs.Rounds.{MayBegin, MakesRecord};
+ghost use Rattle.pb_play.specs.Rounds.{RepeatsRows, asks_of};
 ghost use Rattle.pb_play.specs.Seats.{begins_round};
-ghost use Rattle.pb_play.specs.Shape.{AreWithin};
+ghost use Rattle.pb_round_play.specs.Shape.{AreWithin};
 ghost use Rattle.pb_play.specs.Worlds.{IsBuilt, IsHeldFor, ShowsWorld, GoesOn};
 
-use crate::items::Items;
 use crate::memory::Memory;
-use crate::place::record;
-use crate::queue::{ends_in, serve_queue};
-use crate::seat::Seat;
-use crate::serving::{serve, serve_heap};
-use crate::store::plan_store;
 use crate::work::{Knowledge, Part, Work};
 use crate::world::World;
 use pb_layout::count_line;
 use pb_pmem::Line;
+use pb_round_play::{Items, Seat, ends_in, plan_store, record, serve, serve_heap, serve_queue};
 
 /// The round of the requests that were scanned begins: its record is made, and the calls that store it are planned.
 pub fn begin_round(world: &mut World, side: u32)

@@ -10,10 +10,10 @@ ghost use Rattle.pb_play.specs.Maps.{stage_of, part_of};
 ghost use Rattle.pb_play.specs.Worlds.{ShowsWorld};
 
 use crate::scan::follows;
-use crate::seat::{Seat, Stage};
 use crate::work::{Owner, Part, Work};
 use crate::world::World;
 use pb_object::{Ask, LAST_NUMBER, is_operation};
+use pb_round_play::{Seat, Stage};
 
 /// Whether the region is being opened again, and something is left to do.
 pub fn is_reopening(world: &World) -> bool

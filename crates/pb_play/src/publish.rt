@@ -1,14 +1,15 @@
 //! Filling the next reply row, publishing, and giving up.
 ghost use Rattle.std.specs.Prelude.{◌≡◌, ◌≢◌, ◌+◌, ◌*◌, ◌%◌, ◌-◌, ◌<◌};
-ghost use Rattle.pb_play.specs.Seats.{seat_of, stores_row, fills, row_with, with_published, counted, goes_to, is_answered, notes, gives_up};
+ghost use Rattle.pb_round_play.specs.Counts.{counted};
+ghost use Rattle.pb_play.specs.Seats.{seat_of, stores_row, fills, row_with, with_published, goes_to, is_answered, notes, gives_up};
 ghost use Rattle.pb_play.specs.Steps.{StepsWord};
 
 use crate::memory::Memory;
-use crate::seat::{Row, Seat, Stage};
 use crate::wait::{answer, go_to};
 use crate::work::{Knowledge, Owner, Work};
 use pb_core::Stepped;
 use pb_object::Reply;
+use pb_round_play::{Row, Seat, Stage};
 
 /// The holder stores a word of the next reply row, or publishes it once all are stored.
 pub fn fill(memory: &mut Memory, client: u32, side: u32, count: u32) -> Stepped

@@ -9,11 +9,11 @@ ghost use Rattle.pb_play.specs.Worlds.{IsBuilt, HasRoom, LosesOneAtMost, ShowsWo
 
 use crate::between::call;
 use crate::memory::Memory;
-use crate::settle::plan_settling;
 use crate::work::{Knowledge, Owner};
 use crate::world::World;
 use pb_core::Stepped;
 use pb_image::How;
+use pb_round_play::plan_settling;
 
 /// The next part of opening the region again: reading it, or a call of settling.
 pub fn reopen(world: &mut World) -> Stepped

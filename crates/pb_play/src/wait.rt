@@ -1,15 +1,15 @@
 //! The steps of a client on words, until it has a reply or the turn.
 ghost use Rattle.std.specs.Prelude.{◌≡◌, ◌≢◌, ◌↔◌, ◌%◌, ◌<◌, IsTrue};
 ghost use Rattle.pb_core.specs.Memory.{round_of_turn, side_of};
-ghost use Rattle.pb_play.specs.Maps.{row_by};
+ghost use Rattle.pb_round_play.specs.Seats.{row_by};
 ghost use Rattle.pb_play.specs.Seats.{goes_to, seat_of, stores, op_with, announces, is_answered, begins_asking, takes, first_work};
 ghost use Rattle.pb_play.specs.Steps.{StepsWord, StepsWaiting};
 
 use crate::memory::Memory;
-use crate::seat::{Row, Seat, Stage};
 use crate::work::{Knowledge, Owner, Part, Work};
 use pb_core::Stepped;
 use pb_object::{Action, Ask, Op, Reply};
+use pb_round_play::{Row, Seat, Stage};
 
 /// A client asks for something.
 pub fn begin_asking(memory: &mut Memory, ask: &Ask)

@@ -5,11 +5,11 @@ ghost use Rattle.pb_layout.specs.Header.{header_line_of};
 
 use crate::calls::Calls;
 use crate::device::{Device, filled};
-use crate::items::Items;
 use crate::memory::Memory;
 use pb_layout::{Header, header_line, record_len};
 use pb_object::Kind;
 use pb_pmem::{LINES, Line};
+use pb_round_play::Items;
 use std::alloc::{AllocError, Global};
 
 /// The core: the words of a shared object, where each of its clients stands, the device with the calls that are being made, and what is

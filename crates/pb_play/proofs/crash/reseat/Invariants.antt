@@ -1,6 +1,7 @@
 use Rattle.std.specs.Prelude.{ℕ, ◌≡◌, ◌<◌, length}
-use Rattle.pb_play.specs.Found.{found_row, fresh_seat}
-use Rattle.pb_play.specs.Seats.{seat_at}
+use Rattle.pb_round_play.specs.Seats.{fresh_seat}
+use Rattle.pb_play.specs.Found.{found_row}
+use Rattle.pb_round_play.specs.Seats.{seat_at}
 use Rattle.pb_play.proofs.crash.reseat.Given as goal
 
 abbrev pub invariant-loop-client : goal.invariant-loop-client

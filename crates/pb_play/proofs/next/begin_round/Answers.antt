@@ -6,12 +6,13 @@ use Rattle.pb_core.specs.Memory.{shown}
 use Rattle.pb_engine.specs.Asks.{asked_round}
 use Rattle.pb_play.specs.declared.calls.Calls.{Calls}
 use Rattle.pb_play.specs.declared.memory.Memory.{Memory}
-use Rattle.pb_play.specs.declared.memory.Rounds.{Rounds}
+use Rattle.pb_round_play.specs.declared.rounds.Rounds.{Rounds}
 use Rattle.pb_play.specs.declared.world.World.{World}
-use Rattle.pb_play.specs.Rounds.{asks_of, MayBegin, MakesRecord}
+use Rattle.pb_round_play.specs.Rounds.{MayBegin, MakesRecord}
+use Rattle.pb_play.specs.Rounds.{asks_of}
 use Rattle.pb_play.specs.Seats.{begins_round}
 use Rattle.pb_play.proofs.Beginning.{may_begin, begins_on}
-use Rattle.pb_play.proofs.NextRecords.{side_is_there, few_rounds}
+use Rattle.pb_round_play.proofs.NextRecords.{side_is_there, few_rounds}
 use Rattle.pb_play.proofs.next.begin_round.Goals as goal
 
 pub make_record-requires-clause-may : goal.make_record-requires-clause-may

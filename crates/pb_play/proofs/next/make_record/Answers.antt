@@ -12,10 +12,11 @@ use Rattle.pb_core.specs.Play.{ListsRising}
 use Rattle.pb_engine.specs.Asks.{state_from, asked_round}
 use Rattle.pb_comb.specs.Serving as comb
 use Rattle.pb_queue.specs.Serving as queue
-use Rattle.pb_play.specs.Items.{ItemsFit}
-use Rattle.pb_play.specs.Rounds.{asks_of, MakesRecord}
-use Rattle.pb_play.specs.Serving.{HasServed, HoldsQueue, HasServedQueue}
-use Rattle.pb_play.proofs.NextRecords.{side_is_there, few_rounds, comb_servable, queue_servable, before_is, kind_in, size_in, object_stands, one_made, queue_region, holds_queue, queue_made, apart_map, apart_stack, apart_heap, map_or_heap, stack_or_heap}
+use Rattle.pb_round_play.specs.Items.{ItemsFit}
+use Rattle.pb_round_play.specs.Rounds.{MakesRecord}
+use Rattle.pb_play.specs.Rounds.{asks_of}
+use Rattle.pb_round_play.specs.Serving.{HasServed, HoldsQueue, HasServedQueue}
+use Rattle.pb_round_play.proofs.NextRecords.{side_is_there, few_rounds, comb_servable, queue_servable, before_is, kind_in, size_in, object_stands, one_made, queue_region, holds_queue, queue_made, apart_map, apart_stack, apart_heap, map_or_heap, stack_or_heap}
 use Rattle.pb_play.proofs.next.make_record.Goals as goal
 
 pub split_at-requires : goal.split_at-requires
