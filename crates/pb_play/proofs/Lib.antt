@@ -8,7 +8,6 @@ pub mod Fitting
 pub mod Formatted
 pub mod Founding
 pub mod Holding
-pub mod Leaving
 pub mod NextRecords
 pub mod NextRows
 pub mod Opening

@@ -4,7 +4,7 @@ use Rattle.std.specs.List.{list_all}
 use Rattle.pb_pmem.specs.declared.line.TheConstants.{LINES}
 use Rattle.pb_pmem.specs.declared.log.LogOp.{LogOp}
 use Rattle.pb_pmem.specs.Contents.{contents}
-use Rattle.pb_image.specs.State.{is_within}
+use Rattle.pb_crash.specs.Within.{is_within}
 use Rattle.pb_layout.specs.declared.header.Header.{Header}
 use Rattle.pb_layout.specs.Header.{record_length}
 use Rattle.pb_play.specs.declared.calls.Calls.{Calls}

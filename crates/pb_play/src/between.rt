@@ -4,7 +4,7 @@ ghost use Rattle.pb_core.specs.DeviceParts.{IsWorld};
 ghost use Rattle.pb_core.specs.Memory.{Held, Settling, Calling, clients_of};
 ghost use Rattle.pb_core.specs.World.{World as CoreWorld};
 ghost use Rattle.pb_pmem.specs.Count.{Rose};
-ghost use Rattle.pb_core.specs.declared.event.Event.{Event};
+ghost use Rattle.pb_events.specs.declared.event.Event.{Event};
 ghost use Rattle.pb_core.specs.Play.{IsCallable};
 ghost use Rattle.pb_play.specs.Seats.{counted, with_ahead, recorded, begins_scan, settled, fails, drops};
 ghost use Rattle.pb_play.specs.Worlds.{IsBuilt, IsHeldFor, HasRoom, LosesOneAtMost, ShowsWorld, GoesOn, CallsNext, IsDue, MovesTo};
@@ -14,8 +14,8 @@ use crate::next::begin_round;
 use crate::settle::plan_settling;
 use crate::work::{Knowledge, Owner, Part, Work};
 use crate::world::World;
-use pb_core::Stepped;
-use pb_image::How;
+use pb_crash::Leaves;
+use pb_events::Stepped;
 
 /// How many calls of a store come from its index word on.
 const LAST_CALLS: usize = 3;
@@ -196,7 +196,7 @@ pub fn call(world: &mut World) -> Stepped
 }
 
 /// The holder's next call of the device fails.
-pub fn fail(world: &mut World, client: u32, side: u32, how: How) -> Stepped
+pub fn fail(world: &mut World, client: u32, side: u32, how: Leaves) -> Stepped
     requires shaped { IsBuilt world.old }
     requires room { HasRoom world.old }
     requires holds { world.old.memory.owner ≡ Owner.Held client side }
@@ -220,7 +220,7 @@ pub fn fail(world: &mut World, client: u32, side: u32, how: How) -> Stepped
     }
 }
 
-fn fail_settling(world: &mut World, client: u32, side: u32, how: How) -> Stepped
+fn fail_settling(world: &mut World, client: u32, side: u32, how: Leaves) -> Stepped
     requires shaped { IsBuilt world.old }
     requires room { HasRoom world.old }
     requires holds { world.old.memory.owner ≡ Owner.Held client side }
@@ -244,7 +244,7 @@ fn fail_settling(world: &mut World, client: u32, side: u32, how: How) -> Stepped
 }
 
 // Where a round's index word wasn't called, the round is dropped.
-fn fail_calling(world: &mut World, client: u32, side: u32, how: How) -> Stepped
+fn fail_calling(world: &mut World, client: u32, side: u32, how: Leaves) -> Stepped
     requires shaped { IsBuilt world.old }
     requires room { HasRoom world.old }
     requires holds { world.old.memory.owner ≡ Owner.Held client side }

@@ -7,7 +7,7 @@ use crate::memory::Memory;
 use crate::seat::{Row, Seat, Stage};
 use crate::wait::{answer, go_to};
 use crate::work::{Knowledge, Owner, Work};
-use pb_core::Stepped;
+use pb_events::Stepped;
 use pb_object::Reply;
 
 /// The holder stores a word of the next reply row, or publishes it once all are stored.

@@ -1,4 +1,6 @@
-use pb_image::How;
+//! The events of clients, of the device and of a crash.
+
+use pb_crash::Leaves;
 use pb_object::{Ask, Reply};
 
 /// What may happen.
@@ -16,7 +18,7 @@ pub enum Event {
         /// Which client.
         client: u32,
         /// What the call leaves.
-        how: How,
+        how: Leaves,
     },
     /// A crash: the device is left with one of the images that it may be left with.
     Crash {
@@ -30,7 +32,7 @@ pub enum Event {
     /// The next part of opening it again fails.
     ReopenFail {
         /// What the call leaves.
-        how: How,
+        how: Leaves,
     },
 }
 
