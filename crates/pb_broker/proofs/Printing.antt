@@ -10,7 +10,7 @@ use Rattle.pb_io.specs.declared.sink.SinkFault.{SinkFault}
 use Rattle.pb_io.specs.SinkBytes.{AppendsSome}
 use Rattle.pb_engine.specs.Opening.{IsAdopted}
 use Rattle.pb_engine.specs.View.{EngineView}
-use Rattle.pb_core.specs.declared.event.Stepped.{Stepped}
+use Rattle.pb_events.specs.declared.event.Stepped.{Stepped}
 use Rattle.pb_layout.specs.declared.header.Header.{Header}
 use Rattle.pb_object.specs.Standing.{Standing}
 use Rattle.pb_region_report.specs.AnyEngine.{view_of}

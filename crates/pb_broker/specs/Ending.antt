@@ -1,6 +1,6 @@
 -- What a call of the program comes to.
 use Rattle.std.specs.Prelude.{ℕ, List}
-use Rattle.pb_core.specs.declared.event.Stepped.{Stepped}
+use Rattle.pb_events.specs.declared.event.Stepped.{Stepped}
 use Rattle.pb_object.specs.declared.request.Ask.{Ask}
 use Rattle.pb_object.specs.Standing.{Standing}
 use Rattle.pb_report.specs.declared.outcome.Outcome.{Outcome}

@@ -14,7 +14,7 @@ use Rattle.pb_engine.specs.Covers.{SettleCovers, FailedSettleCovers}
 use Rattle.pb_engine.specs.Outcomes.{HasSettled, HasFailedToSettle}
 use Rattle.pb_engine.specs.Opening.{IsFresh, IsFreshRefusal, IsAdopted}
 use Rattle.pb_engine.specs.View.{EngineView}
-use Rattle.pb_core.specs.declared.event.Stepped.{Stepped}
+use Rattle.pb_events.specs.declared.event.Stepped.{Stepped}
 use Rattle.pb_replay.specs.declared.played.Played.{Played}
 use Rattle.pb_replay.specs.Replay.{Holds, IsReplayed}
 use Rattle.pb_report.specs.declared.outcome.Outcome.{Outcome}

@@ -1,6 +1,7 @@
 //! A call of the program over a device in memory, and what a crash leaves of the device.
 use pb_broker::top;
-use pb_image::{Call, Fail, How, Image};
+use pb_crash::Leaves;
+use pb_image::{Call, Fail, Image};
 use pb_io::{ByteSink, ByteSource, OpenGate};
 use std::alloc::Global;
 use std::process::Abort;
@@ -64,7 +65,7 @@ pub fn fails(
     device: &mut Image,
     call: Call,
     nth: u64,
-    how: How,
+    how: Leaves,
 ) {
     let mut failures = Vec::new(alloc);
     failures.push(Fail { call, nth, how }).expect(rt, "memory");

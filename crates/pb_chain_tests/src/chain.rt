@@ -11,7 +11,8 @@ use crate::draws::Draws;
 use crate::drills::{REGISTERS, are_apart, drilled, summary_text};
 use crate::plain::{Form, Wish};
 use crate::stops::{NOWHERE, rounds_left};
-use pb_image::{Call, How, Image};
+use pb_crash::Leaves;
+use pb_image::{Call, Image};
 use std::alloc::Global;
 use std::process::Abort;
 use std::sync::Wait;
@@ -367,12 +368,12 @@ fn known(
 }
 
 // How a call fails.
-fn way(draws: &mut Draws) -> How {
+fn way(draws: &mut Draws) -> Leaves {
     match draws.below(4) {
-        0 => How::Left,
-        1 => How::Done,
-        2 => How::Torn(9),
-        _ => How::Fenced,
+        0 => Leaves::Left,
+        1 => Leaves::Done,
+        2 => Leaves::Torn(9),
+        _ => Leaves::Fenced,
     }
 }
 

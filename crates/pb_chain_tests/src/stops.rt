@@ -3,7 +3,8 @@
 use crate::asking::{Asking, Line, answered, beginning, cut, report_text, script_text};
 use crate::calls::{after, call, cuts, fails, log_len, says, zeros};
 use crate::plain::{Form, Wish};
-use pb_image::{Call, How, Image};
+use pb_crash::Leaves;
+use pb_image::{Call, Image};
 use pb_pmem::LogOp;
 use std::alloc::Global;
 use std::process::Abort;
@@ -173,7 +174,7 @@ fn of_a_map(rt: HostRuntime) {
 fn of_a_map_whose_sync_fails(rt: HostRuntime) {
     let alloc = rt.alloc();
     let mut device = zeros(&rt, alloc);
-    fails(&rt, alloc, &mut device, Call::Sync, 2, How::Left);
+    fails(&rt, alloc, &mut device, Call::Sync, 2, Leaves::Left);
     let text = script_text(&rt, alloc, MAP.script);
     let doubt = ("0 1 doubt\n0 2 left\n", 6);
     let device = says(&rt, alloc, device, (MAP.words, &text), doubt);

@@ -6,7 +6,7 @@ use Rattle.pb_object.specs.declared.request.Ask.{Ask}
 use Rattle.pb_object.specs.declared.request.Kept.{Kept}
 use Rattle.pb_object.specs.History.{History, Round}
 use Rattle.pb_object.specs.Standing.{Standing, kept_list_of, newest, newest_of}
-use Rattle.pb_core.specs.declared.event.Stepped.{Stepped}
+use Rattle.pb_events.specs.declared.event.Stepped.{Stepped}
 use Rattle.pb_core.specs.Client.{Stage, Storing, Looking, is_idle, is_announced, is_holding, stored_words, Client, ask_word}
 use Rattle.pb_core.specs.Memory.{Owner, Free, Held, Closed, Part, AtNumber, AtCode, AtFirst, AtSecond, AtThird, Work, NoWork, Settling, Scanning, Calling, Filling, Noting, GivingUp, Memory, with_at, with_client, shown}
 use Rattle.pb_core.specs.MemoryParts.{IsClient, IsClear, HasEntries, IsSeen, AreSeen, HasPart, HasScan, HasScanOf, IsMemory}

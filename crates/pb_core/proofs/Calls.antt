@@ -1,8 +1,8 @@
 -- Calls of the device that are being made: how far they came, and what is left of them where one fails.
 use Rattle.std.proofs.Common.{◌≡◌, ◌⊎◌, List, [], ◌∷◌, ◌++◌, Option, Some, None, option_to_list, ap, subst, sym, refl, ◌∙◌, inl, inr}
 use Rattle.std.proofs.lemmas.List.{append-nil, append_assoc, append_cancel_right}
-use Rattle.pb_image.specs.declared.fail.How.{How}
-use Rattle.pb_image.specs.Fails.{left_by}
+use Rattle.pb_crash.specs.declared.leaves.Leaves.{Leaves}
+use Rattle.pb_crash.specs.Leaves.{left_by}
 use Rattle.pb_pmem.specs.declared.log.LogOp.{LogOp}
 use Rattle.pb_pmem.specs.Device.{Tale}
 use Rattle.pb_pmem.specs.Operations.{IsFailedPrefix, with_ops}
@@ -49,12 +49,12 @@ writing_ends {tale} {s} {rounds} {ahead} {entry} {made} writing =
     subst (λ (a : Option Round). IsSteady tale s (rounds ++ coming a)) (sym writing.ahead_is) (steady_at (entry ++ made) (sym writing.log) (subst (λ (ops : List LogOp). IsSteady (with_log tale (entry ++ ops)) s (rounds ++ writing.round ∷ [])) (append-nil made) (committing_seals writing.begun writing.planned)))
 
 -- the log after a failing call
-failed_log : (tale : Tale) (entry made : List LogOp) (how : How) (op : LogOp) → tale.log ≡ entry ++ made → entry ++ (made ++ option_to_list (left_by how op)) ≡ (failed how op tale).log
+failed_log : (tale : Tale) (entry made : List LogOp) (how : Leaves) (op : LogOp) → tale.log ≡ entry ++ made → entry ++ (made ++ option_to_list (left_by how op)) ≡ (failed how op tale).log
 failed_log tale entry made how op log =
     sym (append_assoc entry made (option_to_list (left_by how op))) ∙ ap (λ (l : List LogOp). l ++ option_to_list (left_by how op)) (sym log)
 
 -- one fails before its index word
-pub staging_fails : {tale : Tale} {s : Standing} {rounds : History} {ahead : Option Round} {entry made : List LogOp} (how : How) (op : LogOp) (more : List LogOp) (round : Round) → ahead ≡ Some round → IsWriting tale s rounds ahead entry made (op ∷ (more ++ last_calls (state_after s rounds) round)) → IsSteady (failed how op tale) s rounds
+pub staging_fails : {tale : Tale} {s : Standing} {rounds : History} {ahead : Option Round} {entry made : List LogOp} (how : Leaves) (op : LogOp) (more : List LogOp) (round : Round) → ahead ≡ Some round → IsWriting tale s rounds ahead entry made (op ∷ (more ++ last_calls (state_after s rounds) round)) → IsSteady (failed how op tale) s rounds
 staging_fails {tale} {s} {rounds} {ahead} {entry} {made} how op more round same writing =
     steady_at (entry ++ (made ++ option_to_list (left_by how op))) (failed_log tale entry made how op writing.log) (staging_leaves (made ++ option_to_list (left_by how op)) writing.begun writing.planned (inl (failed_prefix how (first_calls writing.planned) made op more whole)))
   where
@@ -69,7 +69,7 @@ staging_fails {tale} {s} {rounds} {ahead} {entry} {made} how op more round same 
         append_cancel_right (first_calls writing.planned) (made ++ op ∷ more) (last_calls (state_after s rounds) writing.round) (sym (plan_cut writing.planned) ∙ (ap (λ (l : List LogOp). made ++ op ∷ (more ++ l)) last ∙ sym (append_assoc made (op ∷ more) (last_calls (state_after s rounds) writing.round))))
 
 -- one fails from its index word on
-pub committing_fails : {tale : Tale} {s : Standing} {rounds : History} {ahead : Option Round} {entry made : List LogOp} (how : How) (op : LogOp) (before left : List LogOp) (round : Round) → ahead ≡ Some round → last_calls (state_after s rounds) round ≡ before ++ op ∷ left → IsWriting tale s rounds ahead entry made (op ∷ left) → IsInDoubtAfter (failed how op tale) s rounds round
+pub committing_fails : {tale : Tale} {s : Standing} {rounds : History} {ahead : Option Round} {entry made : List LogOp} (how : Leaves) (op : LogOp) (before left : List LogOp) (round : Round) → ahead ≡ Some round → last_calls (state_after s rounds) round ≡ before ++ op ∷ left → IsWriting tale s rounds ahead entry made (op ∷ left) → IsInDoubtAfter (failed how op tale) s rounds round
 committing_fails {tale} {s} {rounds} {ahead} {entry} {made} how op before left round same last writing =
     subst (IsInDoubtAfter (failed how op tale) s rounds) its (doubt_log (entry ++ (made ++ option_to_list (left_by how op))) (failed_log tale entry made how op writing.log) (subst (λ (ops : List LogOp). IsInDoubtAfter (with_log tale (entry ++ ops)) s rounds writing.round) ops (committing_leaves (before ++ option_to_list (left_by how op)) writing.begun writing.planned (failed_prefix how (last_calls (state_after s rounds) writing.round) before op left its_last))))
   where
@@ -143,6 +143,6 @@ settling_reached {tale} {s} {rounds} {ahead} {entry} {made} {left} settling = go
     go (op ∷ left) settling = inl (settling_goes_on settling)
 
 -- one of them fails
-pub settling_fails : {tale : Tale} {s : Standing} {rounds : History} {ahead : Option Round} {entry made left : List LogOp} (how : How) (op : LogOp) → IsSettling tale s rounds ahead entry made (op ∷ left) → IsUnsettled (failed how op tale) s rounds ahead
+pub settling_fails : {tale : Tale} {s : Standing} {rounds : History} {ahead : Option Round} {entry made left : List LogOp} (how : Leaves) (op : LogOp) → IsSettling tale s rounds ahead entry made (op ∷ left) → IsUnsettled (failed how op tale) s rounds ahead
 settling_fails {tale} {s} {rounds} {ahead} {entry} {made} {left} how op settling =
     unsettled_log (failed how op tale) s rounds ahead (entry ++ (made ++ option_to_list (left_by how op))) (failed_log tale entry made how op settling.log) (unsettled_after (with_log tale entry) s rounds ahead (made ++ option_to_list (left_by how op)) settling.begun (failed_prefix how (settle_to (header_for (state_after s rounds)) (with_round ahead (state_after s rounds))) made op left (sym settling.planned)))

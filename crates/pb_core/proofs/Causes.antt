@@ -1,14 +1,14 @@
 -- Each answer without a reply has its cause.
 use Rattle.std.proofs.Common.{◌≡◌, ◌≢◌, ◌⊎◌, ℕ, zero, suc, ◌+◌, ◌-◌, ◌*◌, ◌%◌, ◌<◌, true, false, [], length, refl, ap, subst, sym, ◌∙◌, inl, inr, arith}
 use Rattle.std.proofs.lemmas.Bool.{cases_eq, false≢true}
-use Rattle.pb_image.specs.declared.fail.How.{How}
+use Rattle.pb_crash.specs.declared.leaves.Leaves.{Leaves}
 use Rattle.pb_pmem.specs.Count.{Rose}
 use Rattle.pb_object.specs.declared.request.Ask.{Ask}
 use Rattle.pb_object.specs.Standing.{Standing}
-use Rattle.pb_core.specs.declared.event.Event.{Event}
-use Rattle.pb_core.specs.declared.event.Event.TheVariants.{Ask as AskEvent, Step, Fail, Crash, Reopen, ReopenFail}
-use Rattle.pb_core.specs.declared.event.Stepped.{Stepped}
-use Rattle.pb_core.specs.declared.event.Stepped.TheVariants.{Went, Done, Busy, Fault, Impossible}
+use Rattle.pb_events.specs.declared.event.Event.{Event}
+use Rattle.pb_events.specs.declared.event.Event.TheVariants.{Ask as AskEvent, Step, Fail, Crash, Reopen, ReopenFail}
+use Rattle.pb_events.specs.declared.event.Stepped.{Stepped}
+use Rattle.pb_events.specs.declared.event.Stepped.TheVariants.{Went, Done, Busy, Fault, Impossible}
 use Rattle.pb_core.specs.Client.{Stage, Idle, Storing, Looking, LoadsNumber, LoadsCode, LoadsValue, LoadsExtra, Confirming, Lacking, Taking, Holding, Client, is_idle, is_announced, is_holding}
 use Rattle.pb_core.specs.DeviceParts.{IsWorld}
 use Rattle.pb_core.specs.Laws.{HasMet, IsCaused, HasRaised, IsNoted, IsStepOfAsker, IsToAsker}
@@ -380,7 +380,7 @@ noted-word {old} {new} {c} (noting move) = record {
 noted-word {old} {new} {c} (giving_up move) = notes_none (Step c) old _ (ap work_of move.is) tt
 
 -- a call of a client fails
-noted-fail : {old new : Memory} (client side : ℕ) (how : How) (to : ℕ) → Rose old.count to → new.work ≡ Noting old.count to → new.count ≡ to → new.owner ≡ Held client side → IsNoted (Fail client how) old new
+noted-fail : {old new : Memory} (client side : ℕ) (how : Leaves) (to : ℕ) → Rose old.count to → new.work ≡ Noting old.count to → new.count ≡ to → new.owner ≡ Held client side → IsNoted (Fail client how) old new
 noted-fail {old} {new} client side how to rose work count holds = record {
   noting = λ from later at. let now : Noting old.count to ≡ Noting from later = sym work ∙ at in inr (record {
     client = client;

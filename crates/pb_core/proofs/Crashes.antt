@@ -2,8 +2,8 @@
 use Rattle.std.proofs.Common.{◌≡◌, ◌⊎◌, ℕ, ◌+◌, ◌≤◌, List, [], ◌∷◌, ◌++◌, length, Option, Some, None, ap, subst, sym, refl, ◌∙◌, inl, inr, arith}
 use Rattle.std.proofs.lemmas.Bool.{false≢true, true≢false}
 use Rattle.std.proofs.lemmas.List.{append-nil, append_assoc}
-use Rattle.pb_image.specs.Picked.{picked}
-use Rattle.pb_image.proofs.Crashed.{IsCrashImageAtCut-picked}
+use Rattle.pb_crash.specs.Picked.{picked}
+use Rattle.pb_crash.proofs.Crashed.{IsCrashImageAtCut-picked}
 use Rattle.pb_pmem.specs.declared.line.Line.{Line}
 use Rattle.pb_pmem.specs.declared.log.LogOp.{LogOp}
 use Rattle.pb_pmem.specs.Crash.{IsCrashImage}
@@ -22,7 +22,7 @@ use Rattle.pb_layout_laws.proofs.Calls.{nothing_done}
 use Rattle.pb_layout_laws.proofs.Histories.{state_after-append}
 use Rattle.pb_layout_laws.proofs.ReadyWithOne.{one_from_images, images_from_one}
 use Rattle.pb_layout_laws.proofs.Settling.{member_left}
-use Rattle.pb_core.specs.declared.event.Stepped.{Stepped}
+use Rattle.pb_events.specs.declared.event.Stepped.{Stepped}
 use Rattle.pb_core.specs.Client.{row_word, fresh_client}
 use Rattle.pb_core.specs.DeviceParts.{IsSteady, IsWriting, IsInDoubtAfter, IsUnsettled, Fits, opened_state, IsWorld}
 use Rattle.pb_core.specs.Memory.{Held, Closed, Engine, Resting, Recorded, Writing, Doubtful, Memory, coming, opened}

@@ -1,8 +1,8 @@
 -- What is played is determined: an event makes one world, with one answer.
 use Rattle.std.proofs.Common.{◌≡◌, ℕ, suc, ◌+◌, List, [], ◌∷◌, ◌++◌, Option, Some, None, length, refl, sym, ap, subst, ◌∙◌, inl, inr, arith}
 use Rattle.std.proofs.lemmas.List.{length-append}
-use Rattle.pb_image.specs.declared.fail.How.{How}
-use Rattle.pb_image.specs.Picked.{picked}
+use Rattle.pb_crash.specs.declared.leaves.Leaves.{Leaves}
+use Rattle.pb_crash.specs.Picked.{picked}
 use Rattle.pb_pmem.specs.declared.line.Line.{Line}
 use Rattle.pb_pmem.specs.declared.log.LogOp.{LogOp}
 use Rattle.pb_pmem.specs.Contents.{contents}
@@ -16,10 +16,10 @@ use Rattle.pb_layout.specs.ToldExits.{contents_of}
 use Rattle.pb_layout.specs.Represents.{header_for, record_in_use, record_of_side}
 use Rattle.pb_layout.proofs.OneRecovery.{parts, represents_one}
 use Rattle.pb_layout_laws.proofs.Rounds.{after_entries-kind_of, after_entries-size_of}
-use Rattle.pb_core.specs.declared.event.Event.{Event}
-use Rattle.pb_core.specs.declared.event.Event.TheVariants.{Ask as AskEvent, Step, Fail, Crash, Reopen, ReopenFail}
-use Rattle.pb_core.specs.declared.event.Stepped.{Stepped}
-use Rattle.pb_core.specs.declared.event.Stepped.TheVariants.{Impossible}
+use Rattle.pb_events.specs.declared.event.Event.{Event}
+use Rattle.pb_events.specs.declared.event.Event.TheVariants.{Ask as AskEvent, Step, Fail, Crash, Reopen, ReopenFail}
+use Rattle.pb_events.specs.declared.event.Stepped.{Stepped}
+use Rattle.pb_events.specs.declared.event.Stepped.TheVariants.{Impossible}
 use Rattle.pb_core.specs.Client.{Stage}
 use Rattle.pb_core.specs.DeviceParts.{IsSteady, IsWorld, opened_state}
 use Rattle.pb_core.specs.HolderMoves.{round_by}
@@ -195,7 +195,7 @@ steps_one {old} {a} {b} {c} {said} {says} is left right =
 
 -- Failures
 
-abbrev fails_at : Progress → How → Tale → Tale
+abbrev fails_at : Progress → Leaves → Tale → Tale
 fails_at NoCall how tale = tale
 fails_at (InCall entry made []) how tale = tale
 fails_at (InCall entry made (op ∷ left)) how tale = failed how op tale
@@ -204,7 +204,7 @@ abbrev left_count : Progress → ℕ
 left_count NoCall = 0
 left_count (InCall entry made left) = length left
 
-abbrev fails_to : World → How → Memory → World
+abbrev fails_to : World → Leaves → Memory → World
 fails_to w how m = record { memory = m; tale = fails_at w.progress how w.tale; progress = NoCall }
 
 -- what a call of settling leaves where it fails, a call before the index word, and one from there on
@@ -217,20 +217,20 @@ dropped m to = record m { count = to; work = Noting m.count to; ahead = None; en
 abbrev doubted : Memory → ℕ → Memory
 doubted m to = record m { count = to; work = Noting m.count to; engine = Doubtful }
 
-fails_is : (old : World) {new : World} (how : How) (entry made : List LogOp) (op : LogOp) (left : List LogOp) (after : ℕ → Memory) (to : ℕ) {next : Memory} → old.progress ≡ InCall entry made (op ∷ left) → new ≡ record { memory = next; tale = failed how op old.tale; progress = NoCall } → next ≡ after to → ((n : ℕ) → (after n).count ≡ n) → new.memory.count ≡ one_more old.memory.count → new ≡ fails_to old how (after (one_more old.memory.count))
+fails_is : (old : World) {new : World} (how : Leaves) (entry made : List LogOp) (op : LogOp) (left : List LogOp) (after : ℕ → Memory) (to : ℕ) {next : Memory} → old.progress ≡ InCall entry made (op ∷ left) → new ≡ record { memory = next; tale = failed how op old.tale; progress = NoCall } → next ≡ after to → ((n : ℕ) → (after n).count ≡ n) → new.memory.count ≡ one_more old.memory.count → new ≡ fails_to old how (after (one_more old.memory.count))
 fails_is old {new} how entry made op left after to at is next_is counts count =
     let to_is : to ≡ one_more old.memory.count = sym (ap (λ (w : World). w.memory.count) is ∙ (ap (λ (m : Memory). m.count) next_is ∙ counts to)) ∙ count in
     is ∙ (λ i. record { memory = (next_is ∙ ap after to_is) i; tale = fails_at (sym at i) how old.tale; progress = NoCall })
 
-settle_fails : {old new : World} {c : ℕ} {how : How} {answer : Stepped} (step : FailsToSettle old c how new answer) → new.memory.count ≡ one_more old.memory.count → new ≡ fails_to old how (settling_noted old.memory (one_more old.memory.count))
+settle_fails : {old new : World} {c : ℕ} {how : Leaves} {answer : Stepped} (step : FailsToSettle old c how new answer) → new.memory.count ≡ one_more old.memory.count → new ≡ fails_to old how (settling_noted old.memory (one_more old.memory.count))
 settle_fails {old} {how = how} step count =
     fails_is old how step.entry step.made step.op step.left (settling_noted old.memory) step.move.to step.at step.is step.move.is (λ n. refl) count
 
-stage_fails : {old new : World} {c : ℕ} {how : How} {answer : Stepped} (step : FailsToStage old c how new answer) → new.memory.count ≡ one_more old.memory.count → new ≡ fails_to old how (dropped old.memory (one_more old.memory.count))
+stage_fails : {old new : World} {c : ℕ} {how : Leaves} {answer : Stepped} (step : FailsToStage old c how new answer) → new.memory.count ≡ one_more old.memory.count → new ≡ fails_to old how (dropped old.memory (one_more old.memory.count))
 stage_fails {old} {how = how} step count =
     fails_is old how step.entry step.made step.op (step.more ++ last_calls (shown old.memory) step.round) (dropped old.memory) step.move.to step.at step.is step.move.is (λ n. refl) count
 
-commit_fails : {old new : World} {c : ℕ} {how : How} {answer : Stepped} (step : FailsToCommit old c how new answer) → new.memory.count ≡ one_more old.memory.count → new ≡ fails_to old how (doubted old.memory (one_more old.memory.count))
+commit_fails : {old new : World} {c : ℕ} {how : Leaves} {answer : Stepped} (step : FailsToCommit old c how new answer) → new.memory.count ≡ one_more old.memory.count → new ≡ fails_to old how (doubted old.memory (one_more old.memory.count))
 commit_fails {old} {how = how} step count =
     fails_is old how step.entry step.made step.op step.left (doubted old.memory) step.move.to step.at step.is step.move.is (λ n. refl) count
 
@@ -238,16 +238,16 @@ other_work : (w : World) → w.memory.work ≡ Settling → w.memory.work ≡ Ca
 other_work w settling calling = let same : Settling ≡ Calling = sym settling ∙ calling in cc
 
 -- the index word is still to be called, or it was
-other_cut : {old a b : World} {c : ℕ} {how : How} {said says : Stepped} → FailsToStage old c how a said → FailsToCommit old c how b says → ⊥
+other_cut : {old a b : World} {c : ℕ} {how : Leaves} {said says : Stepped} → FailsToStage old c how a said → FailsToCommit old c how b says → ⊥
 other_cut {old} stage commit =
     let last = last_calls (shown old.memory) stage.round in
     let same : suc (length (stage.more ++ last)) ≡ suc (length commit.left) = sym (ap left_count stage.at) ∙ ap left_count commit.at in
     omega (arith, same, length-append stage.more last, ap length commit.last, length-append commit.before (commit.op ∷ commit.left))
 
-abbrev Fails : World → ℕ → How → World → Stepped → Type 0
+abbrev Fails : World → ℕ → Leaves → World → Stepped → Type 0
 Fails old c how new answer = Moves old (Fail c how) new answer
 
-fails_one : {old a b : World} {c : ℕ} {how : How} {said says : Stepped} → (a.memory.count ≡ one_more old.memory.count) → Fails old c how a said → (b.memory.count ≡ one_more old.memory.count) → Fails old c how b says → IsOne a b said says
+fails_one : {old a b : World} {c : ℕ} {how : Leaves} {said says : Stepped} → (a.memory.count ≡ one_more old.memory.count) → Fails old c how a said → (b.memory.count ≡ one_more old.memory.count) → Fails old c how b says → IsOne a b said says
 fails_one count (inl one) counts (inl two) = (settle_fails one count ∙ sym (settle_fails two counts), one.says ∙ sym two.says)
 fails_one {old} count (inl one) counts (inr (inl two)) = absurd (other_work old one.move.at two.move.at)
 fails_one {old} count (inl one) counts (inr (inr two)) = absurd (other_work old one.move.at two.move.at)
@@ -291,13 +291,13 @@ reopens_one (inl one) (inr two) = absurd (idle_or_calling one.idle two.at)
 reopens_one (inr one) (inl two) = absurd (idle_or_calling two.idle one.at)
 reopens_one {old} (inr one) (inr two) = (call_one old one.at two.at one.is two.is, one.says ∙ sym two.says)
 
-abbrev reopening_fails : World → How → World
+abbrev reopening_fails : World → Leaves → World
 reopening_fails w how = record w { tale = fails_at w.progress how w.tale; progress = NoCall }
 
-reopens_not : {old new : World} {how : How} {answer : Stepped} (step : FailsToReopen old how new answer) → new ≡ reopening_fails old how
+reopens_not : {old new : World} {how : Leaves} {answer : Stepped} (step : FailsToReopen old how new answer) → new ≡ reopening_fails old how
 reopens_not {old} {how = how} step = step.is ∙ (λ i. record old { tale = fails_at (sym step.at i) how old.tale; progress = NoCall })
 
-reopen_fails_one : {old a b : World} {how : How} {said says : Stepped} → Moves old (ReopenFail how) a said → Moves old (ReopenFail how) b says → IsOne a b said says
+reopen_fails_one : {old a b : World} {how : Leaves} {said says : Stepped} → Moves old (ReopenFail how) a said → Moves old (ReopenFail how) b says → IsOne a b said says
 reopen_fails_one (inl one) (inl two) = (one.is ∙ sym two.is, one.says ∙ sym two.says)
 reopen_fails_one (inl one) (inr two) = absurd (idle_or_calling one.idle two.at)
 reopen_fails_one (inr one) (inl two) = absurd (idle_or_calling two.idle one.at)

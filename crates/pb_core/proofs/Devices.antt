@@ -3,9 +3,9 @@ use Rattle.std.proofs.Common.{◌≡◌, ℕ, ◌⊎◌, List, [], ◌∷◌, �
 use Rattle.std.specs.List.{All}
 use Rattle.std.proofs.lemmas.List.{append-nil, append_assoc}
 use Rattle.std.proofs.lemmas.List.Elements.{All-nil, All-cons, All-append}
-use Rattle.pb_image.specs.declared.fail.How.{How}
-use Rattle.pb_image.specs.declared.fail.How.TheVariants.{Left, Done, Torn, Fenced}
-use Rattle.pb_image.specs.Fails.{left_by, filled}
+use Rattle.pb_crash.specs.declared.leaves.Leaves.{Leaves}
+use Rattle.pb_crash.specs.declared.leaves.Leaves.TheVariants.{Left, Done, Torn, Fenced}
+use Rattle.pb_crash.specs.Leaves.{left_by, filled}
 use Rattle.pb_pmem.specs.declared.line.Line.{Line}
 use Rattle.pb_pmem.specs.declared.log.LogOp.{LogOp}
 use Rattle.pb_pmem.specs.declared.log.LogOp.TheVariants.{Whole, Word, Back, Fence, Sync}
@@ -75,7 +75,7 @@ steady_at {tale} {s} {rounds} log same steady =
 -- What a failing call leaves
 
 -- nothing, or an operation that may be added
-pub left_may : (how : How) (op : LogOp) → (option_to_list (left_by how op) ≡ []) ⊎ ((added : LogOp) × MayAdd op added × (option_to_list (left_by how op) ≡ added ∷ []))
+pub left_may : (how : Leaves) (op : LogOp) → (option_to_list (left_by how op) ≡ []) ⊎ ((added : LogOp) × MayAdd op added × (option_to_list (left_by how op) ≡ added ∷ []))
 left_may Left op = inl refl
 left_may Done (Whole line to) = inr (Whole line to, refl, refl)
 left_may Done (Word line word to) = inr (Word line word to, refl, refl)
@@ -94,7 +94,7 @@ left_may Fenced Fence = inl refl
 left_may Fenced Sync = inr (Fence, tt, refl)
 
 -- calls up to a failing one, with what that leaves
-pub failed_prefix : (how : How) (all made : List LogOp) (op : LogOp) (rest : List LogOp) → all ≡ made ++ op ∷ rest → IsFailedPrefix all (made ++ option_to_list (left_by how op))
+pub failed_prefix : (how : Leaves) (all made : List LogOp) (op : LogOp) (rest : List LogOp) → all ≡ made ++ op ∷ rest → IsFailedPrefix all (made ++ option_to_list (left_by how op))
 failed_prefix how all made op rest whole = record {
   prefix = made;
   failed = op;

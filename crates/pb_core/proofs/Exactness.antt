@@ -1,7 +1,7 @@
 -- Where events are possible alone.
 use Rattle.std.proofs.Common.{◌≡◌, ℕ, zero, suc, ◌+◌, ◌<◌, ◌≤◌, true, false, List, [], ◌∷◌, ◌++◌, ap, subst, sym, refl, ◌∙◌, inl, inr}
 use Rattle.std.proofs.lemmas.Bool.{false≢true}
-use Rattle.pb_image.specs.declared.fail.How.{How}
+use Rattle.pb_crash.specs.declared.leaves.Leaves.{Leaves}
 use Rattle.pb_pmem.specs.declared.log.LogOp.{LogOp}
 use Rattle.pb_pmem.specs.Crash.{least_cut, greatest_cut}
 use Rattle.pb_pmem.specs.Device.{Tale, with_op}
@@ -11,9 +11,9 @@ use Rattle.pb_object.specs.Request.{IsOperation}
 use Rattle.pb_object.specs.Standing.{Standing, newest}
 use Rattle.pb_layout.specs.RegionOps.{settle_to}
 use Rattle.pb_layout.specs.Represents.{header_for}
-use Rattle.pb_core.specs.declared.event.Event.TheVariants.{Ask as AskEvent, Step, Crash, Reopen, ReopenFail}
-use Rattle.pb_core.specs.declared.event.Stepped.{Stepped}
-use Rattle.pb_core.specs.declared.event.Stepped.TheVariants.{Went}
+use Rattle.pb_events.specs.declared.event.Event.TheVariants.{Ask as AskEvent, Step, Crash, Reopen, ReopenFail}
+use Rattle.pb_events.specs.declared.event.Stepped.{Stepped}
+use Rattle.pb_events.specs.declared.event.Stepped.TheVariants.{Went}
 use Rattle.pb_core.specs.Client.{Stage, Idle, Storing, Looking, LoadsNumber, LoadsCode, LoadsValue, LoadsExtra, Confirming, Lacking, Taking, Holding, is_idle, Client}
 use Rattle.pb_core.specs.DeviceParts.{IsSteady, IsUnsettled, opened_state, IsWorld}
 use Rattle.pb_core.specs.Memory.{Owner, Free, Held, Closed, Resting, Doubtful, Memory, clients_of}
@@ -294,7 +294,7 @@ may_reopen {w} possible = go possible.next.move
     go (inr step) =
         closed_now possible.next.silent w middle possible.next.silents step.closed (at_opening middle (InCall step.entry step.made (step.op ∷ step.left)) step.closed step.at tt)
 
-may_fail_to_reopen : {w : World} {how : How} → IsPossible w (ReopenFail how) → IsReopening w
+may_fail_to_reopen : {w : World} {how : Leaves} → IsPossible w (ReopenFail how) → IsReopening w
 may_fail_to_reopen {w} {how} possible = go possible.next.move
   where
     middle : World
@@ -339,7 +339,7 @@ can_reopen {w} is opening = opening_cases w (IsPossible w Reopen) opening reads 
       next = record { silent = 0; middle = w; silents = refl; move = inr (record { closed = closed; entry = entry; made = made; op = op; left = left; at = at; is = refl; says = refl }) };
     }
 
-can_fail_to_reopen : {w : World} (how : How) → IsReopening w → IsPossible w (ReopenFail how)
+can_fail_to_reopen : {w : World} (how : Leaves) → IsReopening w → IsPossible w (ReopenFail how)
 can_fail_to_reopen {w} how opening = opening_cases w (IsPossible w (ReopenFail how)) opening reads calls
   where
     reads : w.memory.owner ≡ Closed → w.progress ≡ NoCall → IsPossible w (ReopenFail how)

@@ -1,14 +1,14 @@
 -- Where a call of the device may fail.
 use Rattle.std.proofs.Common.{◌≡◌, ◌⊎◌, ℕ, zero, suc, ◌+◌, ◌<◌, List, [], ◌∷◌, ◌++◌, drop, Some, None, ap, subst, sym, refl, ◌∙◌, inl, inr, arith}
-use Rattle.pb_image.specs.declared.fail.How.{How}
+use Rattle.pb_crash.specs.declared.leaves.Leaves.{Leaves}
 use Rattle.pb_pmem.specs.declared.log.LogOp.{LogOp}
 use Rattle.pb_pmem.specs.declared.log.LogOp.TheVariants.{Word}
 use Rattle.pb_object.specs.declared.request.Ask.{Ask}
 use Rattle.pb_object.specs.History.{state_after}
 use Rattle.pb_object.specs.Standing.{Standing}
 use Rattle.pb_layout.specs.declared.header.TheConstants.{MAGIC}
-use Rattle.pb_core.specs.declared.event.Event.TheVariants.{Fail}
-use Rattle.pb_core.specs.declared.event.Stepped.TheVariants.{Went}
+use Rattle.pb_events.specs.declared.event.Event.TheVariants.{Fail}
+use Rattle.pb_events.specs.declared.event.Stepped.TheVariants.{Went}
 use Rattle.pb_core.specs.DeviceParts.{IsWriting, opened_state, IsWorld}
 use Rattle.pb_core.specs.HolderMoves.{round_by}
 use Rattle.pb_core.specs.Memory.{Owner, Held, AtNumber, AtCode, AtFirst, AtSecond, AtThird, Work, NoWork, Settling, Scanning, Calling, Filling, Noting, GivingUp, Writing, Doubtful, Memory, clients_of, shown, known}
@@ -68,7 +68,7 @@ fail_before_all : {c : ℕ} (count : ℕ) (w v : World) → Silents count w v �
 fail_before_all {c} zero w v same may = subst (λ (x : World). MayFail x c) same may
 fail_before_all (suc count) w v (middle, first, more) may = fail_before first (fail_before_all count middle v more may)
 
-pub may_fail : {w : World} {c : ℕ} {how : How} → IsPossible w (Fail c how) → MayFail w c
+pub may_fail : {w : World} {c : ℕ} {how : Leaves} → IsPossible w (Fail c how) → MayFail w c
 may_fail {w} {c} {how} possible =
     fail_before_all possible.next.silent w middle possible.next.silents (go possible.next.move)
   where
@@ -98,7 +98,7 @@ may_fail {w} {c} {how} possible =
 -- Calls that may fail do
 
 -- behind moves that nobody sees a call fails: of the memory this is next
-fails_behind : {w : World} {c : ℕ} {how : How} (op : LogOp) (middle : World) (count : ℕ) → Silents count w middle → (next : Memory) → Moves middle (Fail c how) (record { memory = next; tale = failed how op middle.tale; progress = NoCall }) Went → IsPossible w (Fail c how)
+fails_behind : {w : World} {c : ℕ} {how : Leaves} (op : LogOp) (middle : World) (count : ℕ) → Silents count w middle → (next : Memory) → Moves middle (Fail c how) (record { memory = next; tale = failed how op middle.tale; progress = NoCall }) Went → IsPossible w (Fail c how)
 fails_behind {w} {c} {how} op middle count silents next move = record {
   new = record { memory = next; tale = failed how op middle.tale; progress = NoCall };
   answer = Went;
@@ -106,7 +106,7 @@ fails_behind {w} {c} {how} op middle count silents next move = record {
 }
 
 -- a call of settling
-fails_settling : {w : World} (middle : World) {c side : ℕ} (how : How) (count : ℕ) (entry made : List LogOp) (op : LogOp) (left : List LogOp) → Silents count w middle → c < clients_of middle.memory → middle.memory.owner ≡ Held c side → middle.memory.work ≡ Settling → middle.progress ≡ InCall entry made (op ∷ left) → IsPossible w (Fail c how)
+fails_settling : {w : World} (middle : World) {c side : ℕ} (how : Leaves) (count : ℕ) (entry made : List LogOp) (op : LogOp) (left : List LogOp) → Silents count w middle → c < clients_of middle.memory → middle.memory.owner ≡ Held c side → middle.memory.work ≡ Settling → middle.progress ≡ InCall entry made (op ∷ left) → IsPossible w (Fail c how)
 fails_settling {w} middle {c} {side} how count entry made op left silents there holds at going =
     fails_behind op middle count silents next (inl (record {
       there = there;
@@ -125,7 +125,7 @@ fails_settling {w} middle {c} {side} how count entry made op left silents there 
     next = record (middle.memory) { count = middle.memory.count + 1; work = Noting middle.memory.count (middle.memory.count + 1) }
 
 -- a call of a round: before its index word, or from there on
-fails_calling : {w : World} (middle : World) {c side : ℕ} (how : How) (count : ℕ) (entry made : List LogOp) (op : LogOp) (left : List LogOp) → Silents count w middle → IsWorld middle → c < clients_of middle.memory → middle.memory.owner ≡ Held c side → middle.memory.work ≡ Calling → middle.progress ≡ InCall entry made (op ∷ left) → IsPossible w (Fail c how)
+fails_calling : {w : World} (middle : World) {c side : ℕ} (how : Leaves) (count : ℕ) (entry made : List LogOp) (op : LogOp) (left : List LogOp) → Silents count w middle → IsWorld middle → c < clients_of middle.memory → middle.memory.owner ≡ Held c side → middle.memory.work ≡ Calling → middle.progress ≡ InCall entry made (op ∷ left) → IsPossible w (Fail c how)
 fails_calling {w} middle {c} {side} how count entry made op left silents is there holds at going =
     go (two_cuts made (op ∷ left) (first_calls writing.planned) last (plan_cut writing.planned))
   where
@@ -191,7 +191,7 @@ fails_calling {w} middle {c} {side} how count entry made op left silents is ther
     go (inl cut) = before_last cut.more cut.rest
     go (inr cut) = commits cut.more cut.rest
 
-pub can_fail : {w : World} {c : ℕ} (how : How) → IsWorld w → HasPlan w → MayFail w c → IsPossible w (Fail c how)
+pub can_fail : {w : World} {c : ℕ} (how : Leaves) → IsWorld w → HasPlan w → MayFail w c → IsPossible w (Fail c how)
 can_fail {w} {c} how is plans may = go w.memory.work refl w.progress refl may.due
   where
     begun : World

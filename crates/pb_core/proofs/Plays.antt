@@ -1,8 +1,8 @@
 -- What is played is a run of the world.
 use Rattle.std.proofs.Common.{List, [], ◌∷◌, subst, sym, inl, inr}
-use Rattle.pb_core.specs.declared.event.Event.{Event}
-use Rattle.pb_core.specs.declared.event.Event.TheVariants.{Ask as AskEvent, Step, Fail, Crash, Reopen, ReopenFail}
-use Rattle.pb_core.specs.declared.event.Stepped.{Stepped}
+use Rattle.pb_events.specs.declared.event.Event.{Event}
+use Rattle.pb_events.specs.declared.event.Event.TheVariants.{Ask as AskEvent, Step, Fail, Crash, Reopen, ReopenFail}
+use Rattle.pb_events.specs.declared.event.Stepped.{Stepped}
 use Rattle.pb_core.specs.DeviceParts.{IsWorld}
 use Rattle.pb_core.specs.Play.{ComesBefore, at_once, silently, PlaysMove, NextPlayed, Play}
 use Rattle.pb_core.specs.World.{World}

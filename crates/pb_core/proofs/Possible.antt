@@ -12,9 +12,9 @@ use Rattle.pb_layout.specs.declared.header.Header.{Header}
 use Rattle.pb_layout.specs.declared.header.TheConstants.{MAGIC}
 use Rattle.pb_layout.specs.RegionOps.{stage_by, settle_to}
 use Rattle.pb_layout.specs.Represents.{header_for}
-use Rattle.pb_core.specs.declared.event.Event.TheVariants.{Step}
-use Rattle.pb_core.specs.declared.event.Stepped.{Stepped}
-use Rattle.pb_core.specs.declared.event.Stepped.TheVariants.{Went}
+use Rattle.pb_events.specs.declared.event.Event.TheVariants.{Step}
+use Rattle.pb_events.specs.declared.event.Stepped.{Stepped}
+use Rattle.pb_events.specs.declared.event.Stepped.TheVariants.{Went}
 use Rattle.pb_core.specs.Client.{Stage, Idle, Storing, Looking, LoadsNumber, LoadsCode, LoadsValue, LoadsExtra, Confirming, Lacking, Taking, Holding, is_idle, is_holding}
 use Rattle.pb_core.specs.DeviceParts.{IsWorld}
 use Rattle.pb_core.specs.HolderMoves.{round_by}

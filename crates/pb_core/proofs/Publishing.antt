@@ -7,7 +7,7 @@ use Rattle.pb_object.specs.declared.request.Kept.{Kept}
 use Rattle.pb_object.specs.declared.request.Reply.{Reply}
 use Rattle.pb_object.specs.History.{Entry, Round, History, kept_by, state_after, IsLegal, IsLegalRound}
 use Rattle.pb_object.specs.Standing.{Standing, keep, kept_list_of, newest, newest_of}
-use Rattle.pb_core.specs.declared.event.Stepped.{Stepped}
+use Rattle.pb_events.specs.declared.event.Stepped.{Stepped}
 use Rattle.pb_core.specs.Client.{Stage, Idle, Storing, Looking, LoadsNumber, LoadsCode, LoadsValue, LoadsExtra, Confirming, Lacking, Taking, Holding, is_announced, is_holding, Client, row_word, entry_by}
 use Rattle.pb_core.specs.Memory.{Owner, Free, Held, Work, Filling, Recorded, Memory, with_at, with_client, clients_of, shown, known, known_by, side_of}
 use Rattle.pb_core.specs.MemoryParts.{IsOneOf, IsClient, IsServed, HasEntries, HasFound, HasRead, IsFilled, HasFilled, HasScan, HasRows, IsMemory, AreAnswered, held_count, entries_with, own_entries, SuitsWork}

@@ -2,8 +2,8 @@
 use Rattle.std.proofs.Common.{◌≡◌, ◌⊎◌, ℕ, zero, suc, ◌≤◌, List, [], ◌∷◌, ◌++◌, Option, Some, None, length, take, ap, subst, sym, refl, ◌∙◌, inl, inr}
 use Rattle.std.proofs.Math.Seq.{take-append_seam}
 use Rattle.std.proofs.lemmas.List.{append-nil, append_assoc, length-map, length-replicate}
-use Rattle.pb_image.specs.Picked.{picked}
-use Rattle.pb_image.proofs.Crashed.{IsCrashImageAtCut-picked}
+use Rattle.pb_crash.specs.Picked.{picked}
+use Rattle.pb_crash.proofs.Crashed.{IsCrashImageAtCut-picked}
 use Rattle.pb_pmem.specs.declared.line.Line.{Line}
 use Rattle.pb_pmem.specs.Contents.{contents}
 use Rattle.pb_pmem.specs.Crash.{IsCrashImage, least_cut, greatest_cut}
@@ -24,10 +24,10 @@ use Rattle.pb_layout_laws.proofs.Formatting.{makes_a_region}
 use Rattle.pb_layout_laws.proofs.Fresh.{fresh_is_ready}
 use Rattle.pb_layout_laws.proofs.Histories.{rounds_in-append, state_after-append}
 use Rattle.pb_layout_laws.proofs.ReadyWithOne.{only_member}
-use Rattle.pb_core.specs.declared.event.Event.{Event}
-use Rattle.pb_core.specs.declared.event.Event.TheVariants.{Ask as AskEvent, Step, Fail, Crash, Reopen, ReopenFail}
-use Rattle.pb_core.specs.declared.event.Stepped.{Stepped}
-use Rattle.pb_core.specs.declared.event.Stepped.TheVariants.{Went}
+use Rattle.pb_events.specs.declared.event.Event.{Event}
+use Rattle.pb_events.specs.declared.event.Event.TheVariants.{Ask as AskEvent, Step, Fail, Crash, Reopen, ReopenFail}
+use Rattle.pb_events.specs.declared.event.Stepped.{Stepped}
+use Rattle.pb_events.specs.declared.event.Stepped.TheVariants.{Went}
 use Rattle.pb_core.specs.DeviceParts.{IsSteady, IsInDoubtAfter, IsUnsettled, IsWriting, Fits, opened_state, IsWorld}
 use Rattle.pb_core.specs.Fresh.{IsFresh}
 use Rattle.pb_core.specs.Laws.{done_of, all_done, history, IsKeptBy, IsOneHistory, IsToldByLog, members_by}

@@ -5,7 +5,7 @@ use Rattle.pb_object.specs.declared.request.Ask.{Ask}
 use Rattle.pb_object.specs.declared.request.Kept.{Kept}
 use Rattle.pb_object.specs.declared.request.Op.{Op}
 use Rattle.pb_object.specs.Standing.{Standing, kept_list_of, newest, newest_of}
-use Rattle.pb_core.specs.declared.event.Stepped.{Stepped}
+use Rattle.pb_events.specs.declared.event.Stepped.{Stepped}
 use Rattle.pb_core.specs.Client.{Holding, is_idle, is_announced, is_holding, stored_words, ask_word}
 use Rattle.pb_core.specs.Memory.{Owner, Held, Part, AtNumber, AtCode, AtFirst, AtSecond, AtThird, Work, Scanning, Engine, Memory, shown, known, known_by, side_of}
 use Rattle.pb_core.specs.MemoryParts.{HasEntries, IsSeen, AreSeen, Meets, IsScan, HasScan, IsMemory}

@@ -5,7 +5,7 @@ use Rattle.pb_object.specs.declared.kind.Kind.{Kind}
 use Rattle.pb_object.specs.declared.request.Kept.{Kept}
 use Rattle.pb_object.specs.History.{History, Round}
 use Rattle.pb_object.specs.Standing.{kept_list_of, newest, newest_of}
-use Rattle.pb_core.specs.declared.event.Stepped.{Stepped}
+use Rattle.pb_events.specs.declared.event.Stepped.{Stepped}
 use Rattle.pb_core.specs.Client.{Looking, Taking, Holding, is_idle, is_announced, is_holding, stored_words, Client}
 use Rattle.pb_core.specs.Memory.{Owner, Free, Held, Closed, AtNumber, Work, NoWork, Settling, Scanning, Noting, GivingUp, Resting, Doubtful, Memory, with_at, with_client, shown, known, side_of, round_of_turn}
 use Rattle.pb_core.specs.MemoryParts.{IsClient, HasEntries, HasScan, IsMemory, SuitsWork, Suits, HasCause, HasFilled, held_count}

@@ -7,7 +7,7 @@ use Rattle.pb_object.specs.declared.request.Kept.{Kept}
 use Rattle.pb_object.specs.declared.request.Reply.{Reply}
 use Rattle.pb_object.specs.History.{Round, History}
 use Rattle.pb_object.specs.Standing.{kept_list_of, newest, newest_of}
-use Rattle.pb_core.specs.declared.event.Stepped.{Stepped}
+use Rattle.pb_events.specs.declared.event.Stepped.{Stepped}
 use Rattle.pb_core.specs.Client.{Stage, Looking, LoadsNumber, LoadsCode, LoadsValue, LoadsExtra, Confirming, Lacking, Taking, is_idle, is_announced, is_holding, stored_words, Client, row_word, entry_by}
 use Rattle.pb_core.specs.Memory.{Owner, Free, Held, Closed, Memory, with_client, shown, round_of_turn}
 use Rattle.pb_core.specs.MemoryParts.{IsClient, IsServed, HasEntries, HasRead, IsMemory, held_count, entry_of}

@@ -1,7 +1,7 @@
 -- Each move keeps what holds of the world.
 use Rattle.std.proofs.Common.{◌≡◌, ℕ, zero, suc, ◌+◌, ◌*◌, List, [], ◌∷◌, ◌++◌, length, Option, Some, None, ap, subst, sym, refl, ◌∙◌, inl, inr, ◌<◌}
 use Rattle.std.proofs.lemmas.List.{append-nil, append_assoc}
-use Rattle.pb_image.specs.declared.fail.How.{How}
+use Rattle.pb_crash.specs.declared.leaves.Leaves.{Leaves}
 use Rattle.pb_pmem.specs.declared.log.LogOp.{LogOp}
 use Rattle.pb_pmem.specs.Device.{Tale, with_op}
 use Rattle.pb_object.specs.declared.request.Ask.{Ask}
@@ -13,9 +13,9 @@ use Rattle.pb_layout.specs.Represents.{header_for}
 use Rattle.pb_layout.specs.ToldExits.{contents_of}
 use Rattle.pb_layout.proofs.OneRecovery.{represents_one}
 use Rattle.pb_layout_laws.proofs.Histories.{state_after-append}
-use Rattle.pb_core.specs.declared.event.Event.{Event}
-use Rattle.pb_core.specs.declared.event.Event.TheVariants.{Ask as AskEvent, Step, Fail, Crash, Reopen, ReopenFail}
-use Rattle.pb_core.specs.declared.event.Stepped.{Stepped}
+use Rattle.pb_events.specs.declared.event.Event.{Event}
+use Rattle.pb_events.specs.declared.event.Event.TheVariants.{Ask as AskEvent, Step, Fail, Crash, Reopen, ReopenFail}
+use Rattle.pb_events.specs.declared.event.Stepped.{Stepped}
 use Rattle.pb_core.specs.DeviceParts.{HoldsAsClient, with_log, IsSteady, IsUnsettled, Fits, opened_state, IsWorld}
 use Rattle.pb_core.specs.HolderMoves.{round_by, beginning, recording, settling_none, settling_round, failing_settling, failing_before, failing_after}
 use Rattle.pb_core.specs.Memory.{Owner, Free, Held, Closed, Work, NoWork, Settling, Scanning, Calling, Filling, AtNumber, Engine, Resting, Recorded, Writing, Doubtful, Memory, clients_of, shown, known, known_by, with_round, coming}
@@ -330,7 +330,7 @@ call_made {w} entry made op left is at = record {
 
 -- Failures
 
-keeps-fails_to_settle : {old new : World} {c : ℕ} {how : How} {answer : Stepped} → IsWorld old → FailsToSettle old c how new answer → IsWorld new
+keeps-fails_to_settle : {old new : World} {c : ℕ} {how : Leaves} {answer : Stepped} → IsWorld old → FailsToSettle old c how new answer → IsWorld new
 keeps-fails_to_settle {old} {new} {c} {how} is step = subst IsWorld (sym step.is) (record {
   memory_is = keeps-holder is.memory_is step.there (failing_settling step.move);
   holder = subst IsHeldAsClient (sym step.move.is) is.holder;
@@ -341,7 +341,7 @@ keeps-fails_to_settle {old} {new} {c} {how} is step = subst IsWorld (sym step.is
     doubtful : old.memory.engine ≡ Doubtful
     doubtful = work_suits Settling is.memory_is step.move.holds step.move.at
 
-keeps-fails_to_stage : {old new : World} {c : ℕ} {how : How} {answer : Stepped} → IsWorld old → FailsToStage old c how new answer → IsWorld new
+keeps-fails_to_stage : {old new : World} {c : ℕ} {how : Leaves} {answer : Stepped} → IsWorld old → FailsToStage old c how new answer → IsWorld new
 keeps-fails_to_stage {old} {new} {c} {how} is step = subst IsWorld (sym step.is) (record {
   memory_is = keeps-holder is.memory_is step.there (failing_before step.move);
   holder = subst IsHeldAsClient (sym step.move.is) is.holder;
@@ -353,7 +353,7 @@ keeps-fails_to_stage {old} {new} {c} {how} is step = subst IsWorld (sym step.is)
     at =
         step.at ∙ ap (λ (s : Standing). InCall step.entry step.made (step.op ∷ (step.more ++ last_calls s step.round))) (shown_is old.memory)
 
-keeps-fails_to_commit : {old new : World} {c : ℕ} {how : How} {answer : Stepped} → IsWorld old → FailsToCommit old c how new answer → IsWorld new
+keeps-fails_to_commit : {old new : World} {c : ℕ} {how : Leaves} {answer : Stepped} → IsWorld old → FailsToCommit old c how new answer → IsWorld new
 keeps-fails_to_commit {old} {new} {c} {how} is step = subst IsWorld (sym step.is) (record {
   memory_is = keeps-holder is.memory_is step.there (failing_after step.move);
   holder = subst IsHeldAsClient (sym step.move.is) is.holder;
@@ -395,7 +395,7 @@ keeps-reads_region {old} {new} is step = subst IsWorld (sym step.is) (record {
     plan =
         ap (λ (s : Standing). settle_to (header_for s) s) same ∙ ap (λ (a : Option Round). settle_to (header_for (state_after (opened_state m) m.published)) (with_round a (state_after (opened_state m) m.published))) (sym suits.2)
 
-keeps-fails_to_reopen : {old new : World} {how : How} {answer : Stepped} → IsWorld old → FailsToReopen old how new answer → IsWorld new
+keeps-fails_to_reopen : {old new : World} {how : Leaves} {answer : Stepped} → IsWorld old → FailsToReopen old how new answer → IsWorld new
 keeps-fails_to_reopen {old} {new} {how} is step = subst IsWorld (sym step.is) (record {
   memory_is = is.memory_is;
   holder = is.holder;

@@ -1,6 +1,6 @@
 -- What holds of every run.
 use Rattle.std.specs.Prelude.{◌≡◌, ◌≢◌, ◌⊎◌, ℕ, suc, true, ◌+◌, ◌%◌, ◌<◌, ◌≤◌, nat_le, List, [], ◌∷◌, ◌++◌, length, take, Option, Some, None, if◌then◌else◌}
-use Rattle.pb_image.specs.declared.fail.How.{How}
+use Rattle.pb_crash.specs.declared.leaves.Leaves.{Leaves}
 use Rattle.pb_pmem.specs.declared.line.Line.{Line}
 use Rattle.pb_pmem.specs.Count.{Rose}
 use Rattle.pb_pmem.specs.declared.log.LogOp.{LogOp}
@@ -18,10 +18,10 @@ use Rattle.pb_layout.specs.LogHistory.{rounds_in, AreSealed, history_of}
 use Rattle.pb_layout.specs.Once.{HasNumbersOnce}
 use Rattle.pb_layout.specs.Ready.{IsReady}
 use Rattle.pb_layout.specs.Recovered.{Represents}
-use Rattle.pb_core.specs.declared.event.Event.{Event}
-use Rattle.pb_core.specs.declared.event.Event.TheVariants.{Step, Fail}
-use Rattle.pb_core.specs.declared.event.Stepped.{Stepped}
-use Rattle.pb_core.specs.declared.event.Stepped.TheVariants.{Went, Done, Busy, Fault, Impossible}
+use Rattle.pb_events.specs.declared.event.Event.{Event}
+use Rattle.pb_events.specs.declared.event.Event.TheVariants.{Step, Fail}
+use Rattle.pb_events.specs.declared.event.Stepped.{Stepped}
+use Rattle.pb_events.specs.declared.event.Stepped.TheVariants.{Went, Done, Busy, Fault, Impossible}
 use Rattle.pb_core.specs.Client.{Stage, Idle, Storing, Looking, LoadsNumber, LoadsCode, LoadsValue, LoadsExtra, Confirming, Lacking, Taking, Holding, is_announced, is_holding, entry_by}
 use Rattle.pb_core.specs.DeviceParts.{opened_state}
 use Rattle.pb_core.specs.HolderMoves.{Begins, round_by}
@@ -133,7 +133,7 @@ IsCaused Impossible old new = ⊥
 pub record HasRaised (event : Event) (old new : Memory) (from to : ℕ) : Type 0 where
   pub client : ℕ
   pub side : ℕ
-  pub how : How
+  pub how : Leaves
   pub fails : event ≡ Fail client how
   pub holds : new.owner ≡ Held client side
   pub before : from ≡ old.count

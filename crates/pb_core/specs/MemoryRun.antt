@@ -2,7 +2,7 @@
 use Rattle.std.specs.Prelude.{◌≡◌, ℕ, zero, suc, ◌<◌, []}
 use Rattle.pb_object.specs.declared.request.Ask.{Ask}
 use Rattle.pb_object.specs.Standing.{Standing}
-use Rattle.pb_core.specs.declared.event.Stepped.{Stepped}
+use Rattle.pb_events.specs.declared.event.Stepped.{Stepped}
 use Rattle.pb_core.specs.HolderMoves.{HolderMove}
 use Rattle.pb_core.specs.Memory.{Free, Resting, Memory, clients_of, opened}
 use Rattle.pb_core.specs.WordMoves.{Asks, IsWordStep}

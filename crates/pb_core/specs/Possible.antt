@@ -1,15 +1,15 @@
 -- Which events are possible.
 use Rattle.std.specs.Prelude.{◌≡◌, ◌↔◌, ℕ, ◌+◌, ◌<◌, ◌≤◌, true, false, List, [], ◌∷◌}
-use Rattle.pb_image.specs.declared.fail.How.{How}
+use Rattle.pb_crash.specs.declared.leaves.Leaves.{Leaves}
 use Rattle.pb_pmem.specs.declared.log.LogOp.{LogOp}
 use Rattle.pb_pmem.specs.Crash.{least_cut, greatest_cut}
 use Rattle.pb_object.specs.declared.request.Ask.{Ask}
 use Rattle.pb_object.specs.declared.request.TheConstants.{LAST_NUMBER}
 use Rattle.pb_object.specs.Request.{IsOperation}
 use Rattle.pb_object.specs.Standing.{newest}
-use Rattle.pb_core.specs.declared.event.Event.{Event}
-use Rattle.pb_core.specs.declared.event.Event.TheVariants.{Ask as AskEvent, Step, Fail, Crash, Reopen, ReopenFail}
-use Rattle.pb_core.specs.declared.event.Stepped.{Stepped}
+use Rattle.pb_events.specs.declared.event.Event.{Event}
+use Rattle.pb_events.specs.declared.event.Event.TheVariants.{Ask as AskEvent, Step, Fail, Crash, Reopen, ReopenFail}
+use Rattle.pb_events.specs.declared.event.Stepped.{Stepped}
 use Rattle.pb_core.specs.Client.{is_idle}
 use Rattle.pb_core.specs.HolderMoves.{round_by}
 use Rattle.pb_core.specs.Memory.{Owner, Free, Held, Closed, AtNumber, AtCode, AtFirst, AtSecond, AtThird, Work, NoWork, Settling, Scanning, Calling, Filling, Noting, GivingUp, clients_of, known}
@@ -89,8 +89,8 @@ pub record IsExact (w : World) : Type 0 where
   pub asks : (ask : Ask) → IsPossible w (AskEvent ask) ↔ MayAsk w ask
   pub steps : (client : ℕ) → IsPossible w (Step client) → MayStep w client
   pub can_step : HasPlan w → (client : ℕ) → MayStep w client → IsPossible w (Step client)
-  pub fails : (client : ℕ) (how : How) → IsPossible w (Fail client how) → MayFail w client
-  pub can_fail : HasPlan w → (client : ℕ) (how : How) → MayFail w client → IsPossible w (Fail client how)
+  pub fails : (client : ℕ) (how : Leaves) → IsPossible w (Fail client how) → MayFail w client
+  pub can_fail : HasPlan w → (client : ℕ) (how : Leaves) → MayFail w client → IsPossible w (Fail client how)
   pub crashes : (cut pick : ℕ) → IsPossible w (Crash cut pick) ↔ MayCrash w cut
   pub reopens : IsPossible w Reopen ↔ IsReopening w
-  pub fails_to_reopen : (how : How) → IsPossible w (ReopenFail how) ↔ IsReopening w
+  pub fails_to_reopen : (how : Leaves) → IsPossible w (ReopenFail how) ↔ IsReopening w

@@ -1,8 +1,8 @@
 -- What may happen in the world: steps on words, calls of the device and their failures, crashes, and opening the region again.
 use Rattle.std.specs.Prelude.{◌≡◌, ◌⊎◌, ℕ, zero, suc, ◌+◌, ◌<◌, ◌≤◌, List, [], ◌∷◌, ◌++◌, Some, option_to_list}
-use Rattle.pb_image.specs.declared.fail.How.{How}
-use Rattle.pb_image.specs.Fails.{left_by}
-use Rattle.pb_image.specs.Picked.{picked}
+use Rattle.pb_crash.specs.declared.leaves.Leaves.{Leaves}
+use Rattle.pb_crash.specs.Leaves.{left_by}
+use Rattle.pb_crash.specs.Picked.{picked}
 use Rattle.pb_pmem.specs.declared.log.LogOp.{LogOp}
 use Rattle.pb_pmem.specs.Crash.{least_cut, greatest_cut}
 use Rattle.pb_pmem.specs.Device.{Tale, with_op}
@@ -14,10 +14,10 @@ use Rattle.pb_layout.specs.Recovered.{Represents}
 use Rattle.pb_layout.specs.RegionOps.{commit_ops, settle_to}
 use Rattle.pb_layout.specs.Represents.{header_for}
 use Rattle.pb_layout.specs.ToldExits.{contents_of}
-use Rattle.pb_core.specs.declared.event.Event.{Event}
-use Rattle.pb_core.specs.declared.event.Event.TheVariants.{Ask as AskEvent, Step, Fail, Crash, Reopen, ReopenFail}
-use Rattle.pb_core.specs.declared.event.Stepped.{Stepped}
-use Rattle.pb_core.specs.declared.event.Stepped.TheVariants.{Went}
+use Rattle.pb_events.specs.declared.event.Event.{Event}
+use Rattle.pb_events.specs.declared.event.Event.TheVariants.{Ask as AskEvent, Step, Fail, Crash, Reopen, ReopenFail}
+use Rattle.pb_events.specs.declared.event.Stepped.{Stepped}
+use Rattle.pb_events.specs.declared.event.Stepped.TheVariants.{Went}
 use Rattle.pb_core.specs.HolderMoves.{round_by, Begins, Records, SettlesNone, SettlesRound, FailsSettling, FailsBefore, FailsAfter}
 use Rattle.pb_core.specs.Memory.{Free, Held, Closed, Settling, Resting, Memory, clients_of, shown, known, with_round, coming, opened}
 use Rattle.pb_core.specs.WordMoves.{Asks, IsWordStep}
@@ -134,11 +134,11 @@ pub record CallsDevice (old : World) (c : ℕ) (new : World) (answer : Stepped) 
 -- Failures
 
 -- the device after a failing call of an operation
-abbrev pub failed : How → LogOp → Tale → Tale
+abbrev pub failed : Leaves → LogOp → Tale → Tale
 failed how op tale = with_ops (option_to_list (left_by how op)) tale
 
 -- a call of settling fails
-pub record FailsToSettle (old : World) (c : ℕ) (how : How) (new : World) (answer : Stepped) : Type 0 where
+pub record FailsToSettle (old : World) (c : ℕ) (how : Leaves) (new : World) (answer : Stepped) : Type 0 where
   pub there : c < clients_of old.memory
   pub next : Memory
   pub move : FailsSettling old.memory c next
@@ -155,7 +155,7 @@ abbrev pub last_calls : Standing → Round → List LogOp
 last_calls s round = commit_ops round.side (rounds_of s round.side + 1)
 
 -- a call of a round fails: the index word is still to be called, ..
-pub record FailsToStage (old : World) (c : ℕ) (how : How) (new : World) (answer : Stepped) : Type 0 where
+pub record FailsToStage (old : World) (c : ℕ) (how : Leaves) (new : World) (answer : Stepped) : Type 0 where
   pub there : c < clients_of old.memory
   pub next : Memory
   pub move : FailsBefore old.memory c next
@@ -170,7 +170,7 @@ pub record FailsToStage (old : World) (c : ℕ) (how : How) (new : World) (answe
   pub says : answer ≡ Went
 
 -- .. or it was called, by this call or before it
-pub record FailsToCommit (old : World) (c : ℕ) (how : How) (new : World) (answer : Stepped) : Type 0 where
+pub record FailsToCommit (old : World) (c : ℕ) (how : Leaves) (new : World) (answer : Stepped) : Type 0 where
   pub there : c < clients_of old.memory
   pub next : Memory
   pub move : FailsAfter old.memory c next
@@ -237,7 +237,7 @@ pub record FailsToRead (old new : World) (answer : Stepped) : Type 0 where
   pub says : answer ≡ Went
 
 -- .. or a call of settling does: reading comes next again
-pub record FailsToReopen (old : World) (how : How) (new : World) (answer : Stepped) : Type 0 where
+pub record FailsToReopen (old : World) (how : Leaves) (new : World) (answer : Stepped) : Type 0 where
   pub closed : old.memory.owner ≡ Closed
   pub entry : List LogOp
   pub made : List LogOp

@@ -2,8 +2,8 @@
 ghost use Rattle.std.specs.Prelude.{◌≡◌, ℕ, ◌<◌, List, length};
 ghost use Rattle.pb_layout.specs.declared.header.Header.{Header};
 ghost use Rattle.pb_object.specs.Standing.{Standing};
-ghost use Rattle.pb_core.specs.declared.event.Event.{Event};
-ghost use Rattle.pb_core.specs.declared.event.Stepped.{Stepped};
+ghost use Rattle.pb_events.specs.declared.event.Event.{Event};
+ghost use Rattle.pb_events.specs.declared.event.Stepped.{Stepped};
 ghost use Rattle.pb_core.specs.DeviceParts.{IsWorld};
 ghost use Rattle.pb_core.specs.Fresh.{IsFresh};
 ghost use Rattle.pb_core.specs.HolderMoves.{Begins};

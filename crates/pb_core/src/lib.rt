@@ -1,7 +1,4 @@
-//! The core: every event of every client, of the device and of a crash, on plain data.
+//! The core: the laws of every event of every client, of the device and of a crash, on plain data.
 #![tactic(auto)]
 
-mod event;
 pub mod laws;
-
-pub use event::{Event, Stepped};

@@ -4,8 +4,9 @@ use crate::found::Found;
 use crate::logs::{log, worked_device};
 use crate::pair::{opened, settle_ops, settled, stored};
 use crate::rounds::told_rounds;
+use pb_crash::Leaves;
 use pb_device_fixtures::{Attempt, WAYS, add_failing, failing, failures, log_of};
-use pb_image::{Call, Fail, How, Image};
+use pb_image::{Call, Fail, Image};
 use pb_pair::{Pair, Why};
 use pb_pmem::{DeviceFault, LogOp};
 use pb_region_fixtures::{format, store_next, tells, worked};
@@ -21,7 +22,7 @@ fn failing_at(
     alloc: Global,
     ops: &[LogOp],
     count: usize,
-    how: How,
+    how: Leaves,
 ) -> Vec<Attempt> {
     let mut attempts = Vec::new(alloc);
     add_failing(&mut attempts, ops, count, how).expect(rt, "memory");
@@ -29,7 +30,7 @@ fn failing_at(
 }
 
 // A device of zeros, of which the call after the first `count` of the worked ones fails.
-fn failing_device(rt: &impl Abort, alloc: Global, count: usize, how: How) -> Image {
+fn failing_device(rt: &impl Abort, alloc: Global, count: usize, how: Leaves) -> Image {
     let attempts = failing_at(rt, alloc, &worked(), count, how);
     failing(alloc, &attempts, 64).expect(rt, "memory")
 }
@@ -40,7 +41,7 @@ fn is_cut_off(
     alloc: Global,
     log: &[LogOp],
     ops: &[LogOp],
-    (count, how): (usize, How),
+    (count, how): (usize, Leaves),
 ) -> bool {
     let attempts = failing_at(rt, alloc, ops, count, how);
     log == log_of(alloc, &attempts).expect(rt, "memory").as_slice()
@@ -94,7 +95,7 @@ fn unformatted(rt: &impl Abort, alloc: Global, device: Image) -> Image {
 }
 
 // A device of which a read fails.
-fn failing_read(rt: &impl Abort, alloc: Global, device: Image, nth: u64, how: How) -> Image {
+fn failing_read(rt: &impl Abort, alloc: Global, device: Image, nth: u64, how: Leaves) -> Image {
     let mut device = device;
     let call = Call::Read;
     let fails = [Fail { call, nth, how }].to_vec(alloc).expect(rt, "memory");
@@ -114,7 +115,7 @@ fn a_formatting_whose_read_fails_writes_nothing(rt: HostRuntime) {
 }
 
 // What a formatting leaves, of whose operations the one after the first `count` fails.
-fn format_fails(rt: &impl Abort, alloc: Global, count: usize, how: How) {
+fn format_fails(rt: &impl Abort, alloc: Global, count: usize, how: Leaves) {
     let device = unformatted(rt, alloc, failing_device(rt, alloc, count, how));
     assert!(rt; is_cut_off(rt, alloc, device.log(), &worked(), (count, how)));
     // The magic is operation 23.
@@ -153,7 +154,7 @@ fn store_fails(
     rt: &impl Abort,
     alloc: Global,
     (stores, from, switch): (u64, usize, usize),
-    (count, how): (usize, How),
+    (count, how): (usize, Leaves),
 ) {
     let on = failing_device(rt, alloc, count, how);
     let device = failed_store(rt, alloc, on, stores);
@@ -181,7 +182,7 @@ fn a_store_that_fails_leaves_the_state_before_it_or_after_it(rt: HostRuntime) {
 #[test]
 fn settling_seals_the_round_of_a_failed_store(rt: HostRuntime) {
     // The last sync fails.
-    let on = failing_device(&rt, rt.alloc(), 48, How::Left);
+    let on = failing_device(&rt, rt.alloc(), 48, Leaves::Left);
     let mut pair = opened(&rt, rt.alloc(), failed_store(&rt, rt.alloc(), on, 1));
     assert!(rt; tells(&pair, 2) && pair.settle() == Ok(false));
     let device = pair.close();
@@ -192,7 +193,7 @@ fn settling_seals_the_round_of_a_failed_store(rt: HostRuntime) {
 }
 
 // A device that holds two rounds is opened, while a read fails. Whether it failed.
-fn read_fails(rt: &impl Abort, alloc: Global, nth: u64, how: How) -> bool {
+fn read_fails(rt: &impl Abort, alloc: Global, nth: u64, how: Leaves) -> bool {
     let device = failing_read(rt, alloc, worked_device(rt, alloc, 49), nth, how);
     match Pair::open(alloc, device) {
         Ok(pair) => {
@@ -235,7 +236,7 @@ fn settle_fails(
     rt: &impl Abort,
     alloc: Global,
     (count, old): (usize, Found),
-    (step, how): (usize, How),
+    (step, how): (usize, Leaves),
 ) {
     let mut device = worked_device(rt, alloc, count);
     let attempts = failing_at(rt, alloc, &settle_ops(2), step, how);

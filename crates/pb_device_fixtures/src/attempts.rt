@@ -1,15 +1,16 @@
-use pb_image::{Call, Fail, How, Image};
+use pb_crash::Leaves;
+use pb_image::{Call, Fail, Image};
 use pb_pmem::{Line, LogOp};
 use std::alloc::{AllocError, Global};
 
 /// The ways in which a call fails.
-pub const WAYS: [How; 4] = [How::Left, How::Done, How::Torn(9), How::Fenced];
+pub const WAYS: [Leaves; 4] = [Leaves::Left, Leaves::Done, Leaves::Torn(9), Leaves::Fenced];
 
 /// A device call: the operation that it makes, and how it fails where it does.
 #[derive(Clone, Copy)]
 pub struct Attempt {
     pub op: LogOp,
-    pub fails: Option<How>,
+    pub fails: Option<Leaves>,
 }
 
 // The kind of call that makes an operation.
@@ -24,14 +25,14 @@ fn kind(op: &LogOp) -> Call {
 }
 
 // What a failing call of this operation leaves.
-fn left_by(op: LogOp, how: How) -> Option<LogOp> {
+fn left_by(op: LogOp, how: Leaves) -> Option<LogOp> {
     match (how, op) {
-        (How::Done, op) => Some(op),
-        (How::Torn(word), LogOp::Whole { line, .. }) => {
+        (Leaves::Done, op) => Some(op),
+        (Leaves::Torn(word), LogOp::Whole { line, .. }) => {
             let to = Line { words: [word; 8] };
             Some(LogOp::Whole { line, to })
         }
-        (How::Fenced, LogOp::Sync) => Some(LogOp::Fence),
+        (Leaves::Fenced, LogOp::Sync) => Some(LogOp::Fence),
         _ => None,
     }
 }
@@ -52,7 +53,7 @@ pub fn add_failing(
     attempts: &mut Vec<Attempt>,
     ops: &[LogOp],
     count: usize,
-    how: How,
+    how: Leaves,
 ) -> Result<(), AllocError> {
     add(attempts, ops, count)?;
     if let Some(op) = ops.get(count) {

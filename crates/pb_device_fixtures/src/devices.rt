@@ -2,7 +2,8 @@
 ghost use Rattle.std.specs.Prelude.{◌↔◌, IsTrue};
 ghost use Rattle.pb_pmem.specs.Operations.{IsWithin};
 
-use pb_image::{Call, Fail, How, Image};
+use pb_crash::Leaves;
+use pb_image::{Call, Fail, Image};
 use pb_pmem::{LINES, LogOp, make};
 use std::alloc::{AllocError, Global};
 
@@ -35,7 +36,7 @@ pub fn failing_at(
     device: &mut Image,
     call: Call,
     calls: &[u64],
-    how: How,
+    how: Leaves,
 ) -> Result<(), AllocError> {
     let mut fails = Vec::new(alloc);
     for nth in calls {

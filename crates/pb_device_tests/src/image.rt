@@ -1,8 +1,9 @@
 //! A device in memory: what it keeps, how it fails, and what a crash leaves of it. And one that never fails.
 ghost use Rattle.std.specs.Prelude.{◌<◌};
 
+use pb_crash::Leaves;
 use pb_device_fixtures::MAGIC;
-use pb_image::{Call, Fail, How, Image, Sound};
+use pb_image::{Call, Fail, Image, Sound};
 use pb_pmem::{Line, LogOp, Pmem, PmemFault};
 use std::alloc::Global;
 use std::process::Abort;
@@ -136,17 +137,17 @@ fn failing(rt: &impl Abort, alloc: Global) -> Image {
         Fail {
             call: Call::Write,
             nth: 1,
-            how: How::Torn(9),
+            how: Leaves::Torn(9),
         },
         Fail {
             call: Call::Sync,
             nth: 2,
-            how: How::Fenced,
+            how: Leaves::Fenced,
         },
         Fail {
             call: Call::Any,
             nth: 4,
-            how: How::Done,
+            how: Leaves::Done,
         },
     ];
     let mut image = Image::zero(alloc, 3).expect(rt, "memory");

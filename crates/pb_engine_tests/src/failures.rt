@@ -5,10 +5,11 @@ use crate::openings::{PICKS, found};
 use crate::records::{add_round, log_of_rounds, records_of, settle_ops};
 use crate::sixteen::serve_rounds;
 use pb_comb::Comb;
+use pb_crash::Leaves;
 use pb_device_fixtures::{Attempt, WAYS, add, add_failing, failing, left_at, log_of};
 use pb_engine::Engine;
 use pb_heap::MinHeap;
-use pb_image::{How, Image};
+use pb_image::Image;
 use pb_map::RegMap;
 use pb_object::Object;
 use pb_pmem::{DeviceFault, Line, LogOp};
@@ -22,8 +23,8 @@ use std::process::Abort;
 struct Failure {
     round: usize,
     count: usize,
-    how: How,
-    settling: Option<(usize, How)>,
+    how: Leaves,
+    settling: Option<(usize, Leaves)>,
 }
 
 impl Failure {

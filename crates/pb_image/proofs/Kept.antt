@@ -12,10 +12,12 @@ use Rattle.pb_pmem.specs.declared.log.LogOp.TheVariants.{Whole, Word, Back, Fenc
 use Rattle.pb_pmem.specs.Contents.{contents}
 use Rattle.pb_pmem.proofs.Lines.{length-contents, contents-none, contents-append}
 use Rattle.pb_image.specs.declared.fail.Call.{Call}
-use Rattle.pb_image.specs.declared.fail.How.{How}
-use Rattle.pb_image.specs.declared.fail.How.TheVariants.{Left, Done, Torn, Fenced}
-use Rattle.pb_image.specs.Fails.{failure, left_by, added_by}
-use Rattle.pb_image.specs.State.{ImageView, IsKept, is_within, failure_of}
+use Rattle.pb_crash.specs.declared.leaves.Leaves.{Leaves}
+use Rattle.pb_crash.specs.declared.leaves.Leaves.TheVariants.{Left, Done, Torn, Fenced}
+use Rattle.pb_crash.specs.Leaves.{left_by}
+use Rattle.pb_image.specs.Fails.{failure, added_by}
+use Rattle.pb_crash.specs.Within.{is_within}
+use Rattle.pb_image.specs.State.{ImageView, IsKept, failure_of}
 
 -- there are as many lines now as at the start
 pub length-lines : {base lines : List Line} {log : List LogOp} {room capacity : ℕ} → IsKept base lines log room capacity → length base ≡ LINES → length lines ≡ LINES
@@ -43,7 +45,7 @@ IsKept-more {base} {lines} {lines'} {log} {log'} more kept same longer large wit
     }
 
 -- what a failing call leaves lies within the device, where its operation does
-pub within-left_by : (how : How) (op : LogOp) → IsTrue (is_within op) → IsTrue (list_all is_within (option_to_list (left_by how op)))
+pub within-left_by : (how : Leaves) (op : LogOp) → IsTrue (is_within op) → IsTrue (list_all is_within (option_to_list (left_by how op)))
 within-left_by Left op h = refl
 within-left_by Done op h = rw h refl
 within-left_by (Torn value) (Whole line to) h = rw h refl
@@ -58,12 +60,12 @@ within-left_by Fenced Fence h = refl
 within-left_by Fenced Sync h = refl
 
 -- and so does what a call adds
-pub within-added_by : (how : Option How) (op : LogOp) → IsTrue (is_within op) → IsTrue (list_all is_within (option_to_list (added_by op how)))
+pub within-added_by : (how : Option Leaves) (op : LogOp) → IsTrue (is_within op) → IsTrue (list_all is_within (option_to_list (added_by op how)))
 within-added_by None op h = rw h refl
 within-added_by (Some how) op h = within-left_by how op h
 
 -- a call adds at most one operation
-added_one : (how : Option How) (op : LogOp) → length (option_to_list (added_by op how)) ≤ 1
+added_one : (how : Option Leaves) (op : LogOp) → length (option_to_list (added_by op how)) ≤ 1
 added_one how op = elim (added_by op how) as (λ o. length (option_to_list o) ≤ 1) [ None ↦ omega arith | Some x ↦ omega arith ]
 
 -- a call adds only what there is room for
@@ -71,7 +73,7 @@ pub room-added_by : (call : Call) (op : LogOp) (image : ImageView) → length im
 room-added_by call op image fits =
     go (failure call image.calls image.fails) (leb image.room (length image.log)) refl
   where
-    go : (listed : Option How) (full : Bool) → leb image.room (length image.log) ≡ full → length image.log + length (option_to_list (added_by op (cond full (Some Left) listed))) ≤ image.room
+    go : (listed : Option Leaves) (full : Bool) → leb image.room (length image.log) ≡ full → length image.log + length (option_to_list (added_by op (cond full (Some Left) listed))) ≤ image.room
     go listed true e = omega arith
     go listed false e = let one = added_one listed op in grind (arith, nat_tests)
 

@@ -1,5 +1,3 @@
 pub mod Answer
-pub mod Crashed
+pub mod Begun
 pub mod Kept
-pub mod Sort
-pub mod Steps

@@ -1,16 +1,13 @@
--- Which calls of the device in memory fail, and what a failing call leaves.
+-- Which calls of the device in memory fail.
 use Rattle.std.specs.Prelude.{ℕ, ◌+◌, Bool, true, false, ◌&&◌, ◌==◌, List, Option, Some, None, option_map, find}
-use Rattle.pb_pmem.specs.declared.line.Line.{Line}
 use Rattle.pb_pmem.specs.declared.log.LogOp.{LogOp}
-use Rattle.pb_pmem.specs.declared.log.LogOp.TheVariants.{Whole, Fence, Sync}
-use Rattle.pb_pmem.specs.Lines.{line_of}
 use Rattle.pb_pmem.specs.Count.{raised}
+use Rattle.pb_crash.specs.declared.leaves.Leaves.{Leaves}
+use Rattle.pb_crash.specs.Leaves.{left_by}
 use Rattle.pb_image.specs.declared.calls.Calls.{Calls}
 use Rattle.pb_image.specs.declared.fail.Call.{Call}
 use Rattle.pb_image.specs.declared.fail.Call.TheVariants.{Read, Write, SetWord, WriteBack, Any}
 use Rattle.pb_image.specs.declared.fail.Call.TheVariants.{Fence as FenceCall, Sync as SyncCall}
-use Rattle.pb_image.specs.declared.fail.How.{How}
-use Rattle.pb_image.specs.declared.fail.How.TheVariants.{Left, Done, Torn, Fenced}
 use Rattle.pb_image.specs.declared.fail.Fail.{Fail}
 
 -- how many calls of a kind there were
@@ -49,28 +46,15 @@ abbrev pub is_due : Call → Calls → Fail → Bool
 is_due call calls fail = is_for fail.call call && (count_of fail.call calls + 1 == fail.nth)
 
 -- how the next call of this kind fails by the list, where it does: the first entry that names it decides
-abbrev pub failure : Call → Calls → List Fail → Option How
+abbrev pub failure : Call → Calls → List Fail → Option Leaves
 failure call calls fails = option_map (λ fail. fail.how) (find (is_due call calls) fails)
 
--- the line with a number in each word
-abbrev pub filled : ℕ → Line
-filled value = line_of value value value value value value value value
-
--- what a failing call of this operation leaves in the log
-abbrev pub left_by : How → LogOp → Option LogOp
-left_by Left op = None
-left_by Done op = Some op
-left_by (Torn value) (Whole line to) = Some (Whole line (filled value))
-left_by (Torn value) _ = None
-left_by Fenced Sync = Some Fence
-left_by Fenced _ = None
-
 -- the operation that a call adds to the log, where it adds one
-abbrev pub added_by : LogOp → Option How → Option LogOp
+abbrev pub added_by : LogOp → Option Leaves → Option LogOp
 added_by op None = Some op
 added_by op (Some how) = left_by how op
 
 -- the count of faults after a call
-abbrev pub faults_after : Option How → ℕ → ℕ
+abbrev pub faults_after : Option Leaves → ℕ → ℕ
 faults_after None faults = faults
 faults_after (Some how) faults = raised faults

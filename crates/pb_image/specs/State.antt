@@ -4,17 +4,18 @@ use Rattle.std.specs.List.{list_all}
 use Rattle.pb_pmem.specs.declared.line.Line.{Line}
 use Rattle.pb_pmem.specs.declared.line.TheConstants.{LINES}
 use Rattle.pb_pmem.specs.declared.log.LogOp.{LogOp}
-use Rattle.pb_pmem.specs.declared.log.LogOp.TheVariants.{Whole, Word, Back, Fence, Sync}
 use Rattle.pb_pmem.specs.Contents.{contents}
 use Rattle.pb_pmem.specs.Device.{Device}
+use Rattle.pb_crash.specs.declared.leaves.Leaves.{Leaves}
+use Rattle.pb_crash.specs.declared.leaves.Leaves.TheVariants.{Left}
+use Rattle.pb_crash.specs.Leaves.{left_by}
+use Rattle.pb_crash.specs.Within.{is_within}
 use Rattle.pb_image.specs.declared.calls.Calls.{Calls}
 use Rattle.pb_image.specs.declared.calls.TheConstants.{NO_CALLS}
 use Rattle.pb_image.specs.declared.fail.Call.{Call}
 use Rattle.pb_image.specs.declared.fail.Call.TheVariants.{Read}
-use Rattle.pb_image.specs.declared.fail.How.{How}
-use Rattle.pb_image.specs.declared.fail.How.TheVariants.{Left}
 use Rattle.pb_image.specs.declared.fail.Fail.{Fail}
-use Rattle.pb_image.specs.Fails.{counted, failure, left_by, added_by, faults_after}
+use Rattle.pb_image.specs.Fails.{counted, failure, added_by, faults_after}
 
 -- the lines that it began with, the operations since then, how many it has room for,
 -- which calls are to fail, how many were made since that was said, and how often it failed
@@ -35,20 +36,12 @@ seen_of image = record {
   faults = image.faults;
 }
 
--- the operation lies within the device
-abbrev pub is_within : LogOp → Bool
-is_within (Whole line to) = nat_lt line LINES
-is_within (Word line word to) = nat_lt line LINES && nat_lt word 8
-is_within (Back first count) = nat_le (first + count) LINES
-is_within Fence = true
-is_within Sync = true
-
 -- how the next read fails, where it does
-abbrev pub failure_of_read : ImageView → Option How
+abbrev pub failure_of_read : ImageView → Option Leaves
 failure_of_read image = failure Read image.calls image.fails
 
 -- how the next call of this kind fails, where it does, if it is one that adds an operation: a full log comes before the list
-abbrev pub failure_of : Call → ImageView → Option How
+abbrev pub failure_of : Call → ImageView → Option Leaves
 failure_of call image =
     if nat_le image.room (length image.log) then Some Left else failure call image.calls image.fails
 
@@ -85,4 +78,4 @@ pub record IsNew (start : List Line) (size : ℕ) (image : ImageView) : Type 0 w
 
 -- a failing call of the first operation may leave the second
 abbrev pub IsLeftBy : LogOp → LogOp → Type 0
-IsLeftBy op left = (how : How) × (left_by how op ≡ Some left)
+IsLeftBy op left = (how : Leaves) × (left_by how op ≡ Some left)

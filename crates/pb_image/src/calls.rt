@@ -1,8 +1,9 @@
+//! Counts of calls, and which of them fail.
 ghost use Rattle.std.specs.Prelude.{◌≡◌, is_ok, is_none};
-ghost use Rattle.pb_image.specs.Fails.{count_of, counted, is_for, is_due, failure, left_by, added_by, faults_after};
+ghost use Rattle.pb_image.specs.Fails.{count_of, counted, is_for, is_due, failure, added_by, faults_after};
 
-use crate::fail::{Call, Fail, How};
-use crate::lines::filled;
+use crate::fail::{Call, Fail};
+use pb_crash::{Leaves, left_by};
 use pb_pmem::{LogOp, PmemFault};
 
 /// How many calls of each kind there were, and how many in all. Each count stands still at its last value.
@@ -73,7 +74,7 @@ fn is_due(fail: &Fail, call: Call, calls: &Calls) -> bool
 }
 
 /// How the next call of a kind fails by the list, where it does.
-pub fn failure(fails: &[Fail], call: Call, calls: &Calls) -> Option<How>
+pub fn failure(fails: &[Fail], call: Call, calls: &Calls) -> Option<Leaves>
     ensures { result ≡ failure call calls.now fails.now }
 {
     fails
@@ -82,29 +83,8 @@ pub fn failure(fails: &[Fail], call: Call, calls: &Calls) -> Option<How>
         .map(|fail| fail.how)
 }
 
-/// What a failing call of this operation leaves.
-fn left_by(how: How, op: LogOp) -> Option<LogOp>
-    ensures { result ≡ left_by how op }
-{
-    match how {
-        How::Left => None,
-        How::Done => Some(op),
-        How::Torn(value) => match op {
-            LogOp::Whole { line, .. } => Some(LogOp::Whole {
-                line,
-                to: filled(value),
-            }),
-            _ => None,
-        },
-        How::Fenced => match op {
-            LogOp::Sync => Some(LogOp::Fence),
-            _ => None,
-        },
-    }
-}
-
 /// The operation that a call adds to the log, where it adds one.
-pub fn added_by(op: LogOp, how: Option<How>) -> Option<LogOp>
+pub fn added_by(op: LogOp, how: Option<Leaves>) -> Option<LogOp>
     ensures { result ≡ added_by op how }
 {
     match how {
@@ -114,7 +94,7 @@ pub fn added_by(op: LogOp, how: Option<How>) -> Option<LogOp>
 }
 
 /// The count of faults after a call.
-pub fn faults_after(how: Option<How>, faults: u64) -> u64
+pub fn faults_after(how: Option<Leaves>, faults: u64) -> u64
     ensures { result ≡ faults_after how faults }
 {
     match how {
@@ -124,7 +104,7 @@ pub fn faults_after(how: Option<How>, faults: u64) -> u64
 }
 
 /// What a call answers.
-pub fn answer(how: Option<How>) -> Result<(), PmemFault>
+pub fn answer(how: Option<Leaves>) -> Result<(), PmemFault>
     ensures { is_ok result ≡ is_none how }
 {
     match how {

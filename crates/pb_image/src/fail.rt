@@ -1,3 +1,7 @@
+//! Which calls of a device in memory are to fail.
+
+use pb_crash::Leaves;
+
 /// A kind of device call.
 #[derive(Clone, Copy, Debug, PartialEq, Eq)]
 pub enum Call {
@@ -17,19 +21,6 @@ pub enum Call {
     Any,
 }
 
-/// What a failing call leaves in the log.
-#[derive(Clone, Copy, Debug, PartialEq, Eq)]
-pub enum How {
-    /// Nothing.
-    Left,
-    /// The operation of the call.
-    Done,
-    /// A write of the whole line with this number in each word, where the call writes a whole line, and else nothing.
-    Torn(u64),
-    /// A fence, where the call is a sync, and else nothing.
-    Fenced,
-}
-
 /// A call that is to fail. The first entry of a list that names a call decides, and a full log comes before the list.
 #[derive(Clone, Copy, Debug, PartialEq, Eq)]
 pub struct Fail {
@@ -38,5 +29,5 @@ pub struct Fail {
     /// Its number among the calls of that kind since the list was given.
     pub nth: u64,
     /// What it leaves.
-    pub how: How,
+    pub how: Leaves,
 }

@@ -6,10 +6,9 @@ ghost use Rattle.pb_pmem.specs.Lines.{line_at, zero_line};
 
 use crate::bytes::lines_from;
 use crate::calls::{Calls, NO_CALLS, added_by, answer, count, failure, faults_after};
-use crate::cuts::cuts_of;
-use crate::fail::{Call, Fail, How};
-use crate::lines::{add, zero_lines};
-use crate::writes::pick_image;
+use crate::fail::{Call, Fail};
+use crate::lines::{pick_image, zero_lines};
+use pb_crash::{Leaves, add, cuts_of};
 use pb_pmem::{LINES, Line, LogOp, Pmem, PmemFault};
 use std::alloc::{AllocError, Global};
 use std::marker::Model;
@@ -50,7 +49,7 @@ impl Image {
     ghost use Rattle.std.specs.Prelude.{◌*◌, take};
     ghost use Rattle.pb_pmem.specs.Crash.{least_cut, greatest_cut, IsCrashImageAtCut, IsAtRest};
     ghost use Rattle.pb_image.specs.Bytes.{lines_of_bytes};
-    ghost use Rattle.pb_image.specs.Picked.{picked};
+    ghost use Rattle.pb_crash.specs.Picked.{picked};
     ghost use Rattle.pb_image.specs.State.{ImageView, IsNew};
 
     /// A device of zeros, with an empty log that has room for `room` operations, and nothing that is to fail.
@@ -135,7 +134,8 @@ impl Image {
 
 impl Image {
     ghost use Rattle.pb_pmem.specs.Device.{Adds, Fails};
-    ghost use Rattle.pb_image.specs.State.{ImageView, failure_of, failure_of_read, after_call, after_read, is_within, seen_of, IsLeftBy};
+    ghost use Rattle.pb_crash.specs.Within.{is_within};
+    ghost use Rattle.pb_image.specs.State.{ImageView, failure_of, failure_of_read, after_call, after_read, seen_of, IsLeftBy};
 
     /// Replaces what is to fail, and counts calls from 1 from now on.
     pub fn failing(&mut self, fails: Vec<Fail>)
@@ -146,7 +146,7 @@ impl Image {
     }
 
     /// How the next read fails, which is counted here.
-    fn next_read(&mut self) -> Option<How>
+    fn next_read(&mut self) -> Option<Leaves>
         ensures how { result ≡ failure_of_read self.old }
         ensures after { self.new ≡ after_read self.old }
         ensures small { self.old.faults ≤ last_count }
@@ -158,11 +158,11 @@ impl Image {
     }
 
     /// How the next call of a kind, which adds an operation, fails.
-    fn next_failure(&self, call: Call) -> Option<How>
+    fn next_failure(&self, call: Call) -> Option<Leaves>
         ensures { result ≡ failure_of call self.now }
     {
         if self.room as usize <= self.log.len() {
-            return Some(How::Left);
+            return Some(Leaves::Left);
         }
         failure(&self.fails, call, &self.calls)
     }

@@ -3,13 +3,11 @@
 
 mod bytes;
 mod calls;
-mod cuts;
 mod fail;
 mod image;
 mod lines;
 mod sound;
-mod writes;
 
-pub use fail::{Call, Fail, How};
+pub use fail::{Call, Fail};
 pub use image::Image;
 pub use sound::Sound;

@@ -2,7 +2,8 @@ ghost use Rattle.std.specs.Prelude.{◌≡◌, ◌+◌, ◌<◌, ◌≤◌, leng
 ghost use Rattle.pb_pmem.specs.declared.line.TheConstants.{LINES};
 ghost use Rattle.pb_pmem.specs.Lines.{zero_line};
 
-use crate::lines::{apply, zero_lines};
+use crate::lines::zero_lines;
+use pb_crash::apply;
 use pb_pmem::{LINES, Line, LogOp, Pmem, PmemFault};
 use std::alloc::{AllocError, Global};
 use std::marker::Model;

@@ -1,6 +1,7 @@
 //! A call of a pair ends with the first call of its device that fails: that isn't made again, and none is made after it.
 //! And opening reads each line once that it needs.
-use pb_image::{Call, Fail, How, Image};
+use pb_crash::Leaves;
+use pb_image::{Call, Fail, Image};
 use pb_layout::record_len;
 use pb_pair::{Pair, Why};
 use pb_pmem::DeviceFault;
@@ -22,7 +23,7 @@ fn failing(
     let mut device = device;
     let mut fails = Vec::new(alloc);
     for later in 0..count {
-        let (nth, how) = (first.saturating_add(later), How::Left);
+        let (nth, how) = (first.saturating_add(later), Leaves::Left);
         fails.push(Fail { call, nth, how }).expect(rt, "memory");
     }
     device.failing(fails);

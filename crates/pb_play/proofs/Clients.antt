@@ -6,7 +6,7 @@ use Rattle.std.proofs.lemmas.List.{get_or-set_same, get_or-set_other, length-set
 use Rattle.pb_object.specs.declared.request.Kept.{Kept}
 use Rattle.pb_object.specs.History.{Entry, Round, after_round}
 use Rattle.pb_object.specs.Standing.{Standing, newest, newest_of}
-use Rattle.pb_core.specs.declared.event.Stepped.{Stepped}
+use Rattle.pb_events.specs.declared.event.Stepped.{Stepped}
 use Rattle.pb_core.specs.Client.{Client}
 use Rattle.pb_core.specs.Memory.{Memory, with_at, with_client, clients_of, shown}
 use Rattle.pb_core.specs.WordMoves.{IsWordStep}

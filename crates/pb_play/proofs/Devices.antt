@@ -5,9 +5,9 @@ use Rattle.pb_pmem.specs.declared.log.LogOp.{LogOp}
 use Rattle.pb_pmem.specs.Contents.{contents}
 use Rattle.pb_pmem.specs.Device.{Tale}
 use Rattle.pb_pmem.proofs.Lines.{length-contents, contents-append}
-use Rattle.pb_image.specs.declared.fail.How.{How}
-use Rattle.pb_image.specs.Fails.{left_by}
-use Rattle.pb_image.specs.State.{is_within}
+use Rattle.pb_crash.specs.declared.leaves.Leaves.{Leaves}
+use Rattle.pb_crash.specs.Leaves.{left_by}
+use Rattle.pb_crash.specs.Within.{is_within}
 use Rattle.pb_core.specs.World.{Progress, NoCall, InCall}
 use Rattle.pb_core.proofs.Lists.{cut_on}
 use Rattle.pb_play.specs.declared.calls.Calls.{Calls}
@@ -101,7 +101,7 @@ makes_call {calls} {old} {new} {tale} {progress} op d at adds s due = go progres
           };
         }
 
-pub fails_call : {calls : Calls} {old new : Device} {tale : Tale} {progress : Progress} (how : How) (op d : LogOp) → op ≡ get_or calls.plan.items calls.made d → AddsTo (option_to_list (left_by how op)) old new → ShowsDevice calls old tale progress → IsCallable progress → FailsCall how tale progress (record calls { going = false }) new
+pub fails_call : {calls : Calls} {old new : Device} {tale : Tale} {progress : Progress} (how : Leaves) (op d : LogOp) → op ≡ get_or calls.plan.items calls.made d → AddsTo (option_to_list (left_by how op)) old new → ShowsDevice calls old tale progress → IsCallable progress → FailsCall how tale progress (record calls { going = false }) new
 fails_call {calls} {old} {new} {tale} {progress} how op d at adds s due = go progress refl due
   where
     go : (now : Progress) → progress ≡ now → IsCallable now → FailsCall how tale progress (record calls { going = false }) new

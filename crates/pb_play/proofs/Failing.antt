@@ -1,13 +1,13 @@
 -- A call of the device fails.
 use Rattle.std.proofs.Common.{◌≡◌, ℕ, ◌-◌, ◌<◌, ◌≤◌, ◌⊎◌, List, [], ◌∷◌, ◌++◌, length, None, ap, subst, sym, refl, ◌∙◌, inl, inr, arith, length-append}
-use Rattle.pb_image.specs.declared.fail.How.{How}
+use Rattle.pb_crash.specs.declared.leaves.Leaves.{Leaves}
 use Rattle.pb_pmem.specs.declared.log.LogOp.{LogOp}
 use Rattle.pb_pmem.specs.Device.{Tale}
 use Rattle.pb_pmem.specs.Count.{Rose}
 use Rattle.pb_object.specs.History.{state_after}
 use Rattle.pb_object.specs.Standing.{Standing}
-use Rattle.pb_core.specs.declared.event.Event.TheVariants.{Fail}
-use Rattle.pb_core.specs.declared.event.Stepped.TheVariants.{Went}
+use Rattle.pb_events.specs.declared.event.Event.TheVariants.{Fail}
+use Rattle.pb_events.specs.declared.event.Stepped.TheVariants.{Went}
 use Rattle.pb_core.specs.DeviceParts.{IsWorld, IsWriting, opened_state}
 use Rattle.pb_core.specs.Memory as core
 use Rattle.pb_core.specs.Memory.{Memory, clients_of, shown}
@@ -69,7 +69,7 @@ shows_dropped {p} {m} s = record {
   rounds = s.rounds;
 }
 
-pub fails_to_settle : {old : CodeWorld} {w : World} {memory : CodeMemory} {calls : Calls} {device : Device} (c side : ℕ) (how : How) → IsWorld w → ShowsWorld old w → w.memory.owner ≡ core.Held c side → c < clients_of w.memory → w.memory.work ≡ core.Settling → Rose old.memory.count (round_counts.counted old.memory.count) → memory ≡ code.fails old.memory → FailsCall how w.tale w.progress calls device → MovesTo w (Fail c how) (record old { memory = memory; calls = calls; device = device }) Went
+pub fails_to_settle : {old : CodeWorld} {w : World} {memory : CodeMemory} {calls : Calls} {device : Device} (c side : ℕ) (how : Leaves) → IsWorld w → ShowsWorld old w → w.memory.owner ≡ core.Held c side → c < clients_of w.memory → w.memory.work ≡ core.Settling → Rose old.memory.count (round_counts.counted old.memory.count) → memory ≡ code.fails old.memory → FailsCall how w.tale w.progress calls device → MovesTo w (Fail c how) (record old { memory = memory; calls = calls; device = device }) Went
 fails_to_settle {old} {w} {memory} c side how is s holds there at rose memory_is fails =
     let m = w.memory in
     let next : Memory = record m { count = round_counts.counted old.memory.count; work = core.Noting m.count (round_counts.counted old.memory.count) } in
@@ -86,7 +86,7 @@ fails_to_settle {old} {w} {memory} c side how is s holds there at rose memory_is
 -- A call of a round
 
 -- the round is dropped where more calls than the last ones were left, and in doubt where not
-pub fails_to_write : {old : CodeWorld} {w : World} {memory : CodeMemory} {calls : Calls} {device : Device} (c side : ℕ) (how : How) → IsWorld w → ShowsWorld old w → w.memory.owner ≡ core.Held c side → c < clients_of w.memory → w.memory.work ≡ core.Calling → Rose old.memory.count (round_counts.counted old.memory.count)
+pub fails_to_write : {old : CodeWorld} {w : World} {memory : CodeMemory} {calls : Calls} {device : Device} (c side : ℕ) (how : Leaves) → IsWorld w → ShowsWorld old w → w.memory.owner ≡ core.Held c side → c < clients_of w.memory → w.memory.work ≡ core.Calling → Rose old.memory.count (round_counts.counted old.memory.count)
     → (fails : FailsCall how w.tale w.progress calls device)
     → (3 < length (fails.op ∷ fails.left) → memory ≡ code.fails (code.drops old.memory))
     → (length (fails.op ∷ fails.left) ≤ 3 → memory ≡ code.fails old.memory)

@@ -2,13 +2,13 @@
 use Rattle.std.proofs.Common.{◌≡◌, ◌≢◌, ℕ, ◌<◌, Bool, true, false, List, [], ◌∷◌, ◌++◌, ap, subst, sym, refl, ◌∙◌, inl, inr, arith}
 use Rattle.std.proofs.lemmas.Bool.{false≢true}
 use Rattle.pb_object.specs.declared.request.Ask.{Ask}
-use Rattle.pb_image.specs.declared.fail.How.{How}
+use Rattle.pb_crash.specs.declared.leaves.Leaves.{Leaves}
 use Rattle.pb_pmem.specs.declared.log.LogOp.{LogOp}
 use Rattle.pb_pmem.specs.Device.{with_op}
 use Rattle.pb_layout.specs.Represents.{header_for}
-use Rattle.pb_core.specs.declared.event.Event.TheVariants.{Step, Fail}
-use Rattle.pb_core.specs.declared.event.Stepped.{Stepped}
-use Rattle.pb_core.specs.declared.event.Stepped.TheVariants.{Went}
+use Rattle.pb_events.specs.declared.event.Event.TheVariants.{Step, Fail}
+use Rattle.pb_events.specs.declared.event.Stepped.{Stepped}
+use Rattle.pb_events.specs.declared.event.Stepped.TheVariants.{Went}
 use Rattle.pb_core.specs.DeviceParts.{IsWorld}
 use Rattle.pb_core.specs.Memory as core
 use Rattle.pb_core.specs.Memory.{Memory, Owner, Work, clients_of, shown, side_of}
@@ -132,7 +132,7 @@ scan_idle {w} c side d part seen {entry} {made} {left} is holds at going =
     fits_in w core.Resting (InCall entry made left) going (work_suits (core.Scanning d part seen) is.memory_is holds at).0 is
 
 -- A call that fails, after moves that nobody sees
-pub fails_on : {between new : CodeWorld} {w : World} {answer : Stepped} (c side : ℕ) (how : How) → IsWorld w → w.memory.owner ≡ core.Held c side → c < clients_of w.memory → (on : GoesOn w between) → IsCallDue w.memory.work w.progress (clients_of w.memory) → ((v : World) → IsWorld v → ShowsWorld between v → c < clients_of v.memory → IsDue v → MovesTo v (Fail c how) new answer) → HasStepped w (Fail c how) new answer
+pub fails_on : {between new : CodeWorld} {w : World} {answer : Stepped} (c side : ℕ) (how : Leaves) → IsWorld w → w.memory.owner ≡ core.Held c side → c < clients_of w.memory → (on : GoesOn w between) → IsCallDue w.memory.work w.progress (clients_of w.memory) → ((v : World) → IsWorld v → ShowsWorld between v → c < clients_of v.memory → IsDue v → MovesTo v (Fail c how) new answer) → HasStepped w (Fail c how) new answer
 fails_on {between} {new} {w} {answer} c side how is holds there on due moves =
     let moved : MovesTo on.middle (Fail c how) new answer = moves on.middle (keeps_before is on.before) on.shows (omega (arith, there, on.clients)) (on.due due) in
     record {

@@ -7,7 +7,6 @@ pub mod Fitting
 pub mod Formatted
 pub mod Founding
 pub mod Holding
-pub mod Leaving
 pub mod NextRows
 pub mod Opening
 pub mod Playing

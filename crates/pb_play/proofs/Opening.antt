@@ -2,7 +2,7 @@
 use Rattle.std.proofs.Common.{◌≡◌, ℕ, ◌+◌, ◌<◌, Bool, true, false, List, [], ◌∷◌, ◌++◌, Option, ap, subst, sym, refl, ◌∙◌, inl, inr, arith}
 use Rattle.std.specs.Prelude.{IsTrue, ◌↔◌}
 use Rattle.std.proofs.lemmas.Bool.{false≢true}
-use Rattle.pb_image.specs.declared.fail.How.{How}
+use Rattle.pb_crash.specs.declared.leaves.Leaves.{Leaves}
 use Rattle.pb_pmem.specs.declared.log.LogOp.{LogOp}
 use Rattle.pb_pmem.specs.Contents.{contents}
 use Rattle.pb_pmem.specs.Device.{with_op}
@@ -13,10 +13,10 @@ use Rattle.pb_object.specs.Standing.{Standing, newest}
 use Rattle.pb_layout.specs.Recovered.{Represents}
 use Rattle.pb_layout.specs.RegionOps.{settle_ops, settle_to}
 use Rattle.pb_layout.specs.Represents.{header_for}
-use Rattle.pb_core.specs.declared.event.Event.{Event}
-use Rattle.pb_core.specs.declared.event.Event.TheVariants.{Ask as AskEvent, Reopen, ReopenFail}
-use Rattle.pb_core.specs.declared.event.Stepped.{Stepped}
-use Rattle.pb_core.specs.declared.event.Stepped.TheVariants.{Went}
+use Rattle.pb_events.specs.declared.event.Event.{Event}
+use Rattle.pb_events.specs.declared.event.Event.TheVariants.{Ask as AskEvent, Reopen, ReopenFail}
+use Rattle.pb_events.specs.declared.event.Stepped.{Stepped}
+use Rattle.pb_events.specs.declared.event.Stepped.TheVariants.{Went}
 use Rattle.pb_core.specs.Client as client
 use Rattle.pb_core.specs.Client.{is_idle}
 use Rattle.pb_core.specs.DeviceParts.{IsWorld, IsUnsettled, opened_state}
@@ -78,7 +78,7 @@ settles_region {new} {w} opening called =
     (inr (record { closed = is_closed w opening; entry = next.entry; made = next.made; op = next.op; left = next.left; at = next.at; is = refl; says = called.0 }))
     next.shows
 
-pub fails_reopening : {old : CodeWorld} {w : World} {calls : Calls} {device : Device} (how : How) → ShowsWorld old w → IsReopening w → FailsCall how w.tale w.progress calls device → HasStepped w (ReopenFail how) (record old { calls = calls; device = device }) Went
+pub fails_reopening : {old : CodeWorld} {w : World} {calls : Calls} {device : Device} (how : Leaves) → ShowsWorld old w → IsReopening w → FailsCall how w.tale w.progress calls device → HasStepped w (ReopenFail how) (record old { calls = calls; device = device }) Went
 fails_reopening {old} {w} how s opening fails =
     moves_at_once (record w { tale = failed how fails.op w.tale; progress = NoCall })
     tt

@@ -1,10 +1,10 @@
 -- Which events happen, and that what they leave is shown too.
 use Rattle.std.proofs.Common.{◌≡◌, ◌⊎◌, subst, sym, inl, inr}
 use Rattle.pb_layout.specs.declared.header.Header.{Header}
-use Rattle.pb_core.specs.declared.event.Event.{Event}
-use Rattle.pb_core.specs.declared.event.Event.TheVariants.{Ask as AskEvent, Step, Fail, Crash, Reopen, ReopenFail}
-use Rattle.pb_core.specs.declared.event.Stepped.{Stepped}
-use Rattle.pb_core.specs.declared.event.Stepped.TheVariants.{Impossible}
+use Rattle.pb_events.specs.declared.event.Event.{Event}
+use Rattle.pb_events.specs.declared.event.Event.TheVariants.{Ask as AskEvent, Step, Fail, Crash, Reopen, ReopenFail}
+use Rattle.pb_events.specs.declared.event.Stepped.{Stepped}
+use Rattle.pb_events.specs.declared.event.Stepped.TheVariants.{Impossible}
 use Rattle.pb_core.specs.DeviceParts.{IsWorld}
 use Rattle.pb_core.specs.Possible.{IsPossible}
 use Rattle.pb_core.specs.World.{World}

@@ -10,8 +10,8 @@ use Rattle.pb_object.specs.History.{Round, after_round, IsLegalRound}
 use Rattle.pb_object.specs.Standing.{Standing, newest_of, rounds_of, side_count}
 use Rattle.pb_pmem.specs.Count.{last_count}
 use Rattle.pb_layout_laws.proofs.Rounds.{next_rounds, next_rounds_other}
-use Rattle.pb_core.specs.declared.event.Stepped.{Stepped}
-use Rattle.pb_core.specs.declared.event.Stepped.TheVariants.{Went, Done, Busy, Fault}
+use Rattle.pb_events.specs.declared.event.Stepped.{Stepped}
+use Rattle.pb_events.specs.declared.event.Stepped.TheVariants.{Went, Done, Busy, Fault}
 use Rattle.pb_core.specs.Client as client
 use Rattle.pb_core.specs.Client.{Client, row_word, entry_by}
 use Rattle.pb_core.specs.Memory as core

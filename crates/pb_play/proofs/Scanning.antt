@@ -6,8 +6,8 @@ use Rattle.std.proofs.lemmas.List.{take_more_set, length-take-le, length-set}
 use Rattle.pb_object.specs.declared.request.Ask.{Ask}
 use Rattle.pb_object.specs.declared.request.Op.{Op}
 use Rattle.pb_object.specs.Standing.{Standing, newest_of}
-use Rattle.pb_core.specs.declared.event.Stepped.{Stepped}
-use Rattle.pb_core.specs.declared.event.Stepped.TheVariants.{Went}
+use Rattle.pb_events.specs.declared.event.Stepped.{Stepped}
+use Rattle.pb_events.specs.declared.event.Stepped.TheVariants.{Went}
 use Rattle.pb_core.specs.Memory as core
 use Rattle.pb_core.specs.Memory.{Memory, clients_of, shown, side_of, round_of_turn}
 use Rattle.pb_core.specs.MemoryParts.{IsMemory, AreSeen}

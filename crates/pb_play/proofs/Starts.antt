@@ -1,6 +1,6 @@
 -- A step on a word keeps the standing in which all began.
 use Rattle.std.proofs.Common.{◌≡◌, ℕ, ap}
-use Rattle.pb_core.specs.declared.event.Stepped.{Stepped}
+use Rattle.pb_events.specs.declared.event.Stepped.{Stepped}
 use Rattle.pb_core.specs.Memory.{Memory}
 use Rattle.pb_core.specs.WordMoves.{WordMove, storing, announcing, looking, matching, lacking_held, lacking_free, loading_code, loading_value, loading_extra, confirming, finding_new, finding_held, taking_sure, taking_unsure, missing, passing_over, meeting, scanning_code, scanning_first, scanning_second, scanning_own, scanning_other, filling, publishing_own, publishing_others, noting, giving_up}
 

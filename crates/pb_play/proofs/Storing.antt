@@ -5,8 +5,8 @@ use Rattle.pb_object.specs.declared.request.Ask.{Ask}
 use Rattle.pb_object.specs.declared.request.Reply.{Reply}
 use Rattle.pb_object.specs.Standing.{kept_list_of, newest}
 use Rattle.pb_pmem.specs.Count.{last_count}
-use Rattle.pb_core.specs.declared.event.Stepped.{Stepped}
-use Rattle.pb_core.specs.declared.event.Stepped.TheVariants.{Went, Done}
+use Rattle.pb_events.specs.declared.event.Stepped.{Stepped}
+use Rattle.pb_events.specs.declared.event.Stepped.TheVariants.{Went, Done}
 use Rattle.pb_core.specs.Client as core
 use Rattle.pb_core.specs.Client.{ask_word, entry_by}
 use Rattle.pb_core.specs.Memory.{Memory, Held, with_at, clients_of, shown, round_of_turn, side_of}

@@ -4,8 +4,8 @@ use Rattle.std.specs.Prelude.{IsTrue, ◌↔◌}
 use Rattle.std.proofs.lemmas.Bool.{cases_eq, false≢true}
 use Rattle.pb_object.specs.declared.request.Ask.{Ask}
 use Rattle.pb_object.specs.declared.request.Reply.{Reply}
-use Rattle.pb_core.specs.declared.event.Stepped.{Stepped}
-use Rattle.pb_core.specs.declared.event.Stepped.TheVariants.{Went, Busy}
+use Rattle.pb_events.specs.declared.event.Stepped.{Stepped}
+use Rattle.pb_events.specs.declared.event.Stepped.TheVariants.{Went, Busy}
 use Rattle.pb_core.specs.Client as core
 use Rattle.pb_core.specs.Memory.{Memory, clients_of, round_of_turn}
 use Rattle.pb_core.specs.WordMoves.{go_to, sees, own_row, looking, matching, lacking_held, lacking_free, loading_code, loading_value, loading_extra, finding_new, finding_held, missing}

@@ -1,6 +1,6 @@
 -- What the code shows of the device, and of the calls that are being made.
 use Rattle.std.specs.Prelude.{◌≡◌, ℕ, Bool, true, false, List, [], ◌∷◌, ◌++◌, length}
-use Rattle.pb_image.specs.declared.fail.How.{How}
+use Rattle.pb_crash.specs.declared.leaves.Leaves.{Leaves}
 use Rattle.pb_pmem.specs.declared.log.LogOp.{LogOp}
 use Rattle.pb_pmem.specs.Contents.{contents}
 use Rattle.pb_pmem.specs.Device.{Tale, with_op}
@@ -43,7 +43,7 @@ pub record MakesCall (tale : Tale) (progress : Progress) (calls : Calls) (device
   pub shows : ShowsDevice calls device (with_op op tale) (InCall entry (made ++ op ∷ []) left)
 
 -- .. or fails
-pub record FailsCall (how : How) (tale : Tale) (progress : Progress) (calls : Calls) (device : Device) : Type 0 where
+pub record FailsCall (how : Leaves) (tale : Tale) (progress : Progress) (calls : Calls) (device : Device) : Type 0 where
   pub entry : List LogOp
   pub made : List LogOp
   pub op : LogOp

@@ -1,4 +1,3 @@
-pub mod Backs
 pub mod Device
 pub mod Found
 pub mod Maps

@@ -2,7 +2,7 @@
 use Rattle.std.specs.Prelude.{false, ◌≡◌, ℕ, ◌+◌, ◌<◌, ◌≤◌, length}
 use Rattle.pb_object.specs.Standing.{rounds_of, side_count}
 use Rattle.pb_pmem.specs.Count.{last_count}
-use Rattle.pb_core.specs.declared.event.Stepped.{Stepped}
+use Rattle.pb_events.specs.declared.event.Stepped.{Stepped}
 use Rattle.pb_core.specs.Client.{is_idle, is_holding}
 use Rattle.pb_core.specs.Memory.{Memory, clients_of, shown, with_round}
 use Rattle.pb_core.specs.MemoryParts.{IsMemory}

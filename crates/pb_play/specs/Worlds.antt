@@ -6,10 +6,10 @@ use Rattle.pb_layout.specs.declared.header.Header.{Header}
 use Rattle.pb_layout.specs.Header.{record_length}
 use Rattle.pb_core.specs.Fresh.{IsFresh}
 use Rattle.pb_layout.specs.Represents.{header_for}
-use Rattle.pb_core.specs.declared.event.Event.{Event}
-use Rattle.pb_core.specs.declared.event.Event.TheVariants.{Ask as AskEvent, Step, Fail, Crash, Reopen, ReopenFail}
-use Rattle.pb_core.specs.declared.event.Stepped.{Stepped}
-use Rattle.pb_core.specs.declared.event.Stepped.TheVariants.{Impossible}
+use Rattle.pb_events.specs.declared.event.Event.{Event}
+use Rattle.pb_events.specs.declared.event.Event.TheVariants.{Ask as AskEvent, Step, Fail, Crash, Reopen, ReopenFail}
+use Rattle.pb_events.specs.declared.event.Stepped.{Stepped}
+use Rattle.pb_events.specs.declared.event.Stepped.TheVariants.{Impossible}
 use Rattle.pb_core.specs.DeviceParts.{IsWorld}
 use Rattle.pb_core.specs.Memory.{Held, clients_of}
 use Rattle.pb_core.specs.Possible.{IsPossible, IsCallDue, IsReopening, MayAsk, MayStep, MayFail, MayCrash}

@@ -4,7 +4,7 @@ ghost use Rattle.pb_core.specs.DeviceParts.{IsWorld};
 ghost use Rattle.pb_core.specs.Memory.{Held, Settling, Calling, clients_of};
 ghost use Rattle.pb_core.specs.World.{World as CoreWorld};
 ghost use Rattle.pb_pmem.specs.Count.{Rose};
-ghost use Rattle.pb_core.specs.declared.event.Event.{Event};
+ghost use Rattle.pb_events.specs.declared.event.Event.{Event};
 ghost use Rattle.pb_core.specs.Play.{IsCallable};
 ghost use Rattle.pb_round_play.specs.Counts.{counted};
 ghost use Rattle.pb_play.specs.Seats.{with_ahead, recorded, begins_scan, settled, fails, drops};
@@ -14,8 +14,8 @@ use crate::memory::Memory;
 use crate::next::begin_round;
 use crate::work::{Knowledge, Owner, Part, Work};
 use crate::world::World;
-use pb_core::Stepped;
-use pb_image::How;
+use pb_crash::Leaves;
+use pb_events::Stepped;
 use pb_round_play::{Rounds, plan_settling};
 
 /// How many calls of a store come from its index word on.
@@ -197,7 +197,7 @@ pub fn call(world: &mut World) -> Stepped
 }
 
 /// The holder's next call of the device fails.
-pub fn fail(world: &mut World, client: u32, side: u32, how: How) -> Stepped
+pub fn fail(world: &mut World, client: u32, side: u32, how: Leaves) -> Stepped
     requires shaped { IsBuilt world.old }
     requires room { HasRoom world.old }
     requires holds { world.old.memory.owner ≡ Owner.Held client side }
@@ -221,7 +221,7 @@ pub fn fail(world: &mut World, client: u32, side: u32, how: How) -> Stepped
     }
 }
 
-fn fail_settling(world: &mut World, client: u32, side: u32, how: How) -> Stepped
+fn fail_settling(world: &mut World, client: u32, side: u32, how: Leaves) -> Stepped
     requires shaped { IsBuilt world.old }
     requires room { HasRoom world.old }
     requires holds { world.old.memory.owner ≡ Owner.Held client side }
@@ -245,7 +245,7 @@ fn fail_settling(world: &mut World, client: u32, side: u32, how: How) -> Stepped
 }
 
 // Where a round's index word wasn't called, the round is dropped.
-fn fail_calling(world: &mut World, client: u32, side: u32, how: How) -> Stepped
+fn fail_calling(world: &mut World, client: u32, side: u32, how: Leaves) -> Stepped
     requires shaped { IsBuilt world.old }
     requires room { HasRoom world.old }
     requires holds { world.old.memory.owner ≡ Owner.Held client side }

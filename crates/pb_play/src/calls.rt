@@ -1,13 +1,13 @@
 //! The calls of the device that are being made.
 ghost use Rattle.std.specs.Prelude.{◌≡◌, ◌+◌, ◌-◌, ◌↔◌, ◌<◌, ◌≤◌, true, false, length, IfOk, IsTrue};
 ghost use Rattle.pb_pmem.specs.Device.{Tale};
-ghost use Rattle.pb_image.specs.Fails.{left_by};
+ghost use Rattle.pb_crash.specs.Leaves.{left_by};
 ghost use Rattle.pb_layout.specs.declared.header.Header.{Header};
 ghost use Rattle.pb_layout.specs.Header.{record_length};
 ghost use Rattle.pb_core.specs.World.{Progress};
 
-use crate::device::{Device, left_by};
-use pb_image::How;
+use crate::device::Device;
+use pb_crash::{Leaves, left_by};
 use pb_pmem::LogOp;
 use std::alloc::{AllocError, Global};
 
@@ -94,7 +94,7 @@ impl Calls {
     }
 
     /// The next one fails, and the answer is true. Where none is due nothing happens.
-    pub fn fail(&mut self, device: &mut Device, how: How) -> bool
+    pub fn fail(&mut self, device: &mut Device, how: Leaves) -> bool
         requires device { IsDevice device.old }
         requires within { AreWithin self.old.plan.items }
         requires room { length device.old.log.items < device.old.room }

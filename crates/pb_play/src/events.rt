@@ -1,20 +1,20 @@
 ghost use Rattle.std.specs.Prelude.{◌≡◌, ◌<◌};
-ghost use Rattle.pb_core.specs.declared.event.Event.{Event};
+ghost use Rattle.pb_events.specs.declared.event.Event.{Event};
 ghost use Rattle.pb_core.specs.DeviceParts.{IsWorld};
 ghost use Rattle.pb_core.specs.Possible.{MayStep, MayFail};
 ghost use Rattle.pb_core.specs.World.{World as CoreWorld};
 ghost use Rattle.pb_play.specs.Worlds.{IsBuilt, IsShown, IsShaped, HasRoom, LosesOneAtMost, ShowsWorld, HasStepped, PlaysExactly, PlaysEvent, HappensWhereItMay};
 
 use crate::between::{fail, go_on};
-use crate::crash::{crash, cuts_of};
+use crate::crash::crash;
 use crate::hold::hold;
 use crate::possible::{is_reopening, may_ask, may_fail, may_step};
 use crate::reopen::{fail_to_reopen, open, reopen};
 use crate::wait::{begin_asking, wait};
 use crate::work::Owner;
 use crate::world::World;
-use pb_core::{Event, Stepped};
-use pb_image::How;
+use pb_crash::{Leaves, cuts_of};
+use pb_events::{Event, Stepped};
 use pb_object::Ask;
 
 /// Makes an event. `Impossible` comes exactly where it may not happen now, and then nothing changes.
@@ -107,7 +107,7 @@ fn step_beside(world: &mut World, client: u32, holder: u32, side: u32) -> Steppe
     }
 }
 
-fn step_fail(world: &mut World, client: u32, how: How) -> Stepped
+fn step_fail(world: &mut World, client: u32, how: Leaves) -> Stepped
     requires shaped { IsBuilt world.old }
     requires shown { IsShown world.old }
     requires room { HasRoom world.old }
@@ -128,7 +128,7 @@ fn step_fail(world: &mut World, client: u32, how: How) -> Stepped
     }
 }
 
-fn fail_next(world: &mut World, client: u32, holder: u32, side: u32, how: How) -> Stepped
+fn fail_next(world: &mut World, client: u32, holder: u32, side: u32, how: Leaves) -> Stepped
     requires shaped { IsBuilt world.old }
     requires shown { IsShown world.old }
     requires room { HasRoom world.old }
@@ -178,7 +178,7 @@ fn step_reopen(world: &mut World) -> Stepped
     reopen(world)
 }
 
-fn step_reopen_fail(world: &mut World, how: How) -> Stepped
+fn step_reopen_fail(world: &mut World, how: Leaves) -> Stepped
     requires shaped { IsBuilt world.old }
     requires room { HasRoom world.old }
     ensures shaped { IsBuilt world.new }

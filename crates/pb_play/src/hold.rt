@@ -1,6 +1,6 @@
 //! The steps of the client that holds the turn.
 ghost use Rattle.std.specs.Prelude.{◌≡◌, ◌<◌};
-ghost use Rattle.pb_core.specs.declared.event.Event.{Event};
+ghost use Rattle.pb_events.specs.declared.event.Event.{Event};
 ghost use Rattle.pb_core.specs.DeviceParts.{IsWorld};
 ghost use Rattle.pb_core.specs.Memory.{Held, clients_of};
 ghost use Rattle.pb_core.specs.World.{World as CoreWorld};
@@ -12,7 +12,7 @@ use crate::publish::{fill, give_up, note};
 use crate::scan::scan;
 use crate::work::{Owner, Part, Work};
 use crate::world::World;
-use pb_core::Stepped;
+use pb_events::Stepped;
 
 /// The holder of the turn makes its next step.
 pub fn hold(world: &mut World, client: u32, side: u32) -> Stepped

@@ -7,7 +7,7 @@ ghost use Rattle.pb_play.specs.Steps.{StepsWord};
 use crate::memory::Memory;
 use crate::wait::{answer, go_to};
 use crate::work::{Knowledge, Owner, Work};
-use pb_core::Stepped;
+use pb_events::Stepped;
 use pb_object::Reply;
 use pb_round_play::{Row, Seat, Stage};
 

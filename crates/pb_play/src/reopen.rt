@@ -1,7 +1,7 @@
 //! Opening the region again after a crash.
 ghost use Rattle.std.specs.Prelude.{◌≡◌};
 ghost use Rattle.pb_core.specs.DeviceParts.{IsWorld};
-ghost use Rattle.pb_core.specs.declared.event.Event.{Event};
+ghost use Rattle.pb_events.specs.declared.event.Event.{Event};
 ghost use Rattle.pb_core.specs.Possible.{IsReopening};
 ghost use Rattle.pb_core.specs.World.{World as CoreWorld};
 ghost use Rattle.pb_play.specs.Seats.{opened};
@@ -11,8 +11,8 @@ use crate::between::call;
 use crate::memory::Memory;
 use crate::work::{Knowledge, Owner};
 use crate::world::World;
-use pb_core::Stepped;
-use pb_image::How;
+use pb_crash::Leaves;
+use pb_events::Stepped;
 use pb_round_play::plan_settling;
 
 /// The next part of opening the region again: reading it, or a call of settling.
@@ -38,7 +38,7 @@ pub fn reopen(world: &mut World) -> Stepped
 }
 
 /// The next part of opening it again fails: reading is next.
-pub fn fail_to_reopen(world: &mut World, how: How) -> Stepped
+pub fn fail_to_reopen(world: &mut World, how: Leaves) -> Stepped
     requires shaped { IsBuilt world.old }
     requires room { HasRoom world.old }
     ensures shaped { IsBuilt world.new }

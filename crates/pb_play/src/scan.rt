@@ -6,7 +6,7 @@ ghost use Rattle.pb_play.specs.Steps.{StepsHeld};
 use crate::memory::Memory;
 use crate::wait::{row, side_of};
 use crate::work::{Part, Work};
-use pb_core::Stepped;
+use pb_events::Stepped;
 use pb_object::{Ask, Op};
 
 /// The holder loads the next word of a client's request.

@@ -7,7 +7,7 @@ ghost use Rattle.pb_play.specs.Steps.{StepsWord, StepsWaiting};
 
 use crate::memory::Memory;
 use crate::work::{Knowledge, Owner, Part, Work};
-use pb_core::Stepped;
+use pb_events::Stepped;
 use pb_object::{Action, Ask, Op, Reply};
 use pb_round_play::{Row, Seat, Stage};
 

@@ -4,8 +4,9 @@ ghost use Rattle.pb_pmem.specs.Lines.{zero_line};
 ghost use Rattle.pb_layout.specs.Header.{header_line_of};
 
 use crate::calls::Calls;
-use crate::device::{Device, filled};
+use crate::device::Device;
 use crate::memory::Memory;
+use pb_crash::filled;
 use pb_layout::{Header, header_line, record_len};
 use pb_object::Kind;
 use pb_pmem::{LINES, Line};

@@ -1,8 +1,8 @@
 //! Events that are drawn by chance.
 ghost use Rattle.std.specs.Prelude.{◌<◌};
 
-use pb_core::Event;
-use pb_image::How;
+use pb_crash::Leaves;
+use pb_events::Event;
 use pb_object::{Ask, Kind, Op};
 
 /// How many clients there are.
@@ -29,12 +29,12 @@ impl Chance {
         self.state % bound
     }
 
-    fn how(&mut self) -> How {
+    fn how(&mut self) -> Leaves {
         match self.below(4) {
-            0 => How::Left,
-            1 => How::Done,
-            2 => How::Torn(9),
-            _ => How::Fenced,
+            0 => Leaves::Left,
+            1 => Leaves::Done,
+            2 => Leaves::Torn(9),
+            _ => Leaves::Fenced,
         }
     }
 

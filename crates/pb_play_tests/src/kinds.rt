@@ -2,7 +2,7 @@
 ghost use Rattle.std.specs.Prelude.{◌≤◌};
 
 use crate::played::Played;
-use pb_core::Stepped;
+use pb_events::Stepped;
 use pb_object::{Ask, Kind, Op, Reply};
 use std::alloc::Global;
 use std::process::Abort;

@@ -2,7 +2,7 @@
 ghost use Rattle.std.specs.Prelude.{◌<◌, ◌≤◌};
 ghost use Rattle.pb_pmem.specs.declared.line.TheConstants.{LINES};
 
-use pb_core::{Event, Stepped};
+use pb_events::{Event, Stepped};
 use pb_object::{Ask, Kind};
 use pb_play::{World, step};
 use pb_pmem::Line;

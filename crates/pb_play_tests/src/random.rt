@@ -4,7 +4,7 @@ ghost use Rattle.std.specs.Prelude.{◌<◌};
 use crate::chance::{CLIENTS, Chance};
 use crate::played::Played;
 use crate::seen::{Seen, is_crash};
-use pb_core::{Event, Stepped};
+use pb_events::{Event, Stepped};
 use pb_object::{Ask, Kind};
 use std::alloc::Global;
 use std::process::Abort;

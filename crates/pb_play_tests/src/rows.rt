@@ -3,7 +3,7 @@ ghost use Rattle.std.specs.Prelude.{◌<◌};
 ghost use Rattle.pb_pmem.specs.declared.line.TheConstants.{LINES};
 
 use crate::played::Played;
-use pb_core::Stepped;
+use pb_events::Stepped;
 use pb_object::{Ask, Kind, Op, Reply};
 use pb_pmem::Line;
 use std::process::Abort;

@@ -1,5 +1,5 @@
 //! What was seen of schedules by chance.
-use pb_core::Event;
+use pb_events::Event;
 
 /// How many requests were answered, how many crashes there were, and how many requests were answered after one.
 #[derive(Clone, Copy, Default)]

@@ -2,8 +2,9 @@
 use crate::crashes::openings;
 use crate::operations::{queue_log, settle_ops};
 use crate::queue::{Change, ROUNDS, ROWS, Row, changed, format, formatted, has_cell, make, tells};
+use pb_crash::Leaves;
 use pb_device_fixtures::{Attempt, WAYS, add, add_failing, failing, log_of, word};
-use pb_image::{Call, Fail, How, Image};
+use pb_image::{Call, Fail, Image};
 use pb_pair::{Pair, Why};
 use pb_pmem::{DeviceFault, LogOp};
 use pb_region_fixtures::open;
@@ -19,7 +20,7 @@ struct Failure {
     row: Row,
     // The number of operations before it.
     count: usize,
-    how: How,
+    how: Leaves,
     reopens: bool,
 }
 
@@ -29,7 +30,7 @@ impl Failure {
         match self.row.switch {
             Some(switch) => {
                 switch < self.count
-                    || switch == self.count && (self.how == How::Done || !self.reopens)
+                    || switch == self.count && (self.how == Leaves::Done || !self.reopens)
             }
             None => false,
         }
@@ -49,7 +50,7 @@ fn expected(
     rt: &impl Abort,
     alloc: Global,
     failure: &Failure,
-    steps: &[(usize, How)],
+    steps: &[(usize, Leaves)],
 ) -> Result<Vec<Attempt>, AllocError> {
     let mut attempts = Vec::new(alloc);
     let log = queue_log(alloc)?;
@@ -135,7 +136,7 @@ fn look_at_crashes(rt: &impl Abort, alloc: Global, device: &Image, failure: &Fai
 }
 
 // A change fails, and then settlings at these steps.
-fn fails(rt: &impl Abort, alloc: Global, failure: &Failure, steps: &[(usize, How)]) {
+fn fails(rt: &impl Abort, alloc: Global, failure: &Failure, steps: &[(usize, Leaves)]) {
     let attempts = expected(rt, alloc, failure, steps).expect(rt, "memory");
     let device = failing(alloc, &attempts, 256).expect(rt, "memory");
     let device = settled_after(rt, alloc, device, failure, steps.len());
@@ -172,7 +173,7 @@ fn settling_that_fails_twice_is_tried_again(rt: HostRuntime) {
                 let failure = Failure {
                     row,
                     count: row.to.saturating_sub(1),
-                    how: How::Left,
+                    how: Leaves::Left,
                     reopens: step % 2 == 1,
                 };
                 let steps = [(step, how), ((step + 3) % 5, how)];
@@ -194,7 +195,7 @@ fn unformatted(rt: &impl Abort, alloc: Global, device: Image) -> Image {
 }
 
 // What a formatting leaves, of whose operations the one after the first `count` fails.
-fn format_fails(rt: &impl Abort, alloc: Global, count: usize, how: How) -> Image {
+fn format_fails(rt: &impl Abort, alloc: Global, count: usize, how: Leaves) -> Image {
     let mut attempts = Vec::new(alloc);
     let log = queue_log(alloc).expect(rt, "memory");
     add_failing(&mut attempts, &log, count, how).expect(rt, "memory");
@@ -228,7 +229,7 @@ fn a_formatting_that_fails_leaves_no_queue_or_the_empty_one(rt: HostRuntime) {
 }
 
 // A device with the changed queue, of which a read fails.
-fn changed_failing(rt: &impl Abort, alloc: Global, nth: u64, how: How) -> Image {
+fn changed_failing(rt: &impl Abort, alloc: Global, nth: u64, how: Leaves) -> Image {
     let mut device = changed(rt, alloc);
     let call = Call::Read;
     let fails = [Fail { call, nth, how }].to_vec(alloc).expect(rt, "memory");

@@ -1,6 +1,7 @@
 //! A call of a pair over a queue ends with the first call of its device that fails: that isn't made again, and none is made after it.
 use crate::queue::{HEAD, ROWS, format, make};
-use pb_image::{Call, Fail, How, Image};
+use pb_crash::Leaves;
+use pb_image::{Call, Fail, Image};
 use pb_pair::{Pair, Why};
 use pb_pmem::DeviceFault;
 use pb_region_fixtures::open;
@@ -11,7 +12,7 @@ use std::process::Abort;
 fn failing_from(rt: &impl Abort, alloc: Global, first: u64) -> Image {
     let mut fails = Vec::new(alloc);
     for later in 0..64 {
-        let (call, how) = (Call::Any, How::Left);
+        let (call, how) = (Call::Any, Leaves::Left);
         let nth = first.saturating_add(later);
         fails.push(Fail { call, nth, how }).expect(rt, "memory");
     }

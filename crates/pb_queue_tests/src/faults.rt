@@ -3,8 +3,9 @@
 use crate::engine::{
     Step, fresh, one_place, open, recorded, serve, serve_step, settle, stands_at, two_places, zeros,
 };
+use pb_crash::Leaves;
 use pb_engine::Engine;
-use pb_image::{Call, Fail, How, Image};
+use pb_image::{Call, Fail, Image};
 use pb_queue::TwinQueue;
 use std::alloc::Global;
 use std::process::Abort;
@@ -90,7 +91,7 @@ fn run_failing(rt: &impl Abort, alloc: Global, size: u32, steps: &[Step], fail: 
 }
 
 // How many calls there are: each of them fails in this way.
-fn calls_that_fail(rt: &impl Abort, alloc: Global, size: u32, steps: &[Step], how: How) -> u64 {
+fn calls_that_fail(rt: &impl Abort, alloc: Global, size: u32, steps: &[Step], how: Leaves) -> u64 {
     for nth in 1..400 {
         let fail = Fail {
             call: Call::Any,
@@ -105,7 +106,7 @@ fn calls_that_fail(rt: &impl Abort, alloc: Global, size: u32, steps: &[Step], ho
 }
 
 fn each_call_fails(rt: &impl Abort, alloc: Global, size: u32, steps: &[Step]) {
-    for how in [How::Left, How::Done, How::Torn(9), How::Fenced] {
+    for how in [Leaves::Left, Leaves::Done, Leaves::Torn(9), Leaves::Fenced] {
         let calls = calls_that_fail(rt, alloc, size, steps, how);
         assert!(rt; calls > 100 && calls < 400);
     }

@@ -1,8 +1,9 @@
 //! Reports, written over engines that were opened again.
 use crate::engines::{Session, comb, open, served};
 use crate::rows::Row;
+use pb_crash::Leaves;
 use pb_engine::Engine;
-use pb_image::{Call, Fail, How, Image};
+use pb_image::{Call, Fail, Image};
 use pb_io::ByteSink;
 use pb_map::RegMap;
 use pb_object::Kind;
@@ -77,7 +78,7 @@ fn failing(alloc: Global) -> Result<Image, TestFail> {
     fails.push(Fail {
         call: Call::Sync,
         nth: 3,
-        how: How::Left,
+        how: Leaves::Left,
     })?;
     device.failing(fails);
     Ok(device)

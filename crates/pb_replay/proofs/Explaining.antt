@@ -7,7 +7,7 @@ use Rattle.pb_object.specs.Standing.{Standing}
 use Rattle.pb_layout.specs.declared.header.Header.{Header}
 use Rattle.pb_layout.proofs.OneRecovery.{parts}
 use Rattle.pb_layout.proofs.OneStanding.{one_standing}
-use Rattle.pb_core.specs.declared.event.Stepped.{Stepped}
+use Rattle.pb_events.specs.declared.event.Stepped.{Stepped}
 use Rattle.pb_core.specs.Laws.{IsOneHistory, IsKeptBy}
 use Rattle.pb_core.proofs.Plays.{run_of}
 use Rattle.pb_core.proofs.Runs.{one_history}

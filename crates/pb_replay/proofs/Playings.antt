@@ -4,7 +4,7 @@ use Rattle.std.specs.Result.{IsErrAnd}
 use Rattle.std.proofs.lemmas.Bool.{false≢true}
 use Rattle.std.proofs.lemmas.List.{append-nil, append_assoc, length_push, take_at}
 use Rattle.pb_layout.specs.declared.header.Header.{Header}
-use Rattle.pb_core.specs.declared.event.Event.{Event}
+use Rattle.pb_events.specs.declared.event.Event.{Event}
 use Rattle.pb_script.specs.declared.event.EventLine.TheVariants.{Nothing, Refused, Events}
 use Rattle.pb_script.specs.declared.event.Repeat.{Repeat}
 use Rattle.pb_script.specs.declared.script.ScriptFault.{ScriptFault}

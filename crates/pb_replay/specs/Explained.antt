@@ -3,7 +3,7 @@ use Rattle.std.specs.Prelude.{◌≡◌, List, ◌++◌}
 use Rattle.pb_object.specs.History.{History, state_after}
 use Rattle.pb_object.specs.Standing.{Standing}
 use Rattle.pb_layout.specs.declared.header.Header.{Header}
-use Rattle.pb_core.specs.declared.event.Stepped.{Stepped}
+use Rattle.pb_events.specs.declared.event.Stepped.{Stepped}
 use Rattle.pb_core.specs.Laws.{IsOneHistory, all_done}
 use Rattle.pb_core.specs.MemoryParts.{AreAnswered}
 use Rattle.pb_core.specs.World.{World}

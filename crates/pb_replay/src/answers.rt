@@ -1,10 +1,10 @@
 //! The lines of answers.
 ghost use Rattle.std.specs.Prelude.{◌≡◌, ◌≤◌, ◌++◌, codes, length};
 ghost use Rattle.arrayvec.specs.ArrayString.{array_string_len};
-ghost use Rattle.pb_core.specs.declared.event.Stepped.{Stepped};
+ghost use Rattle.pb_events.specs.declared.event.Stepped.{Stepped};
 ghost use Rattle.pb_replay.specs.AnswerText.{answer_line, ask_text, values_text};
 
-use pb_core::Stepped;
+use pb_events::Stepped;
 use pb_object::{Ask, Reply};
 use pb_report::{Lines, Text, push_number, push_reply, push_spaced};
 

@@ -2,7 +2,7 @@
 ghost use Rattle.std.specs.Prelude.{◌≡◌, ℕ, List};
 ghost use Rattle.pb_layout.specs.declared.header.Header.{Header};
 ghost use Rattle.pb_object.specs.Standing.{Standing};
-ghost use Rattle.pb_core.specs.declared.event.Stepped.{Stepped};
+ghost use Rattle.pb_events.specs.declared.event.Stepped.{Stepped};
 ghost use Rattle.pb_replay.specs.Explained.{IsExplained};
 ghost use Rattle.pb_replay.specs.Replay.{IsReplayed, HasBadEvent};
 

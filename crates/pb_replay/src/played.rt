@@ -16,7 +16,7 @@ use crate::answers::AnswerLines;
 use crate::device::open_region;
 use crate::playing::Playing;
 use crate::survey::event_count;
-use pb_core::Stepped;
+use pb_events::Stepped;
 use pb_image::Sound;
 use pb_io::{Sink, SinkFault};
 use pb_layout::Header;

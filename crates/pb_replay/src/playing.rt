@@ -1,6 +1,6 @@
 //! A schedule that is being played.
 ghost use Rattle.std.specs.Prelude.{◌≡◌, ℕ, ◌+◌, ◌<◌, ◌^◌, List, [], ◌∷◌, ◌++◌, true, length, IfOk, OnOk};
-ghost use Rattle.pb_core.specs.declared.event.Event.{Event};
+ghost use Rattle.pb_events.specs.declared.event.Event.{Event};
 ghost use Rattle.pb_layout.specs.declared.header.Header.{Header};
 ghost use Rattle.pb_script.specs.Events.{event_line};
 ghost use Rattle.pb_script.specs.Script.{request_lines};
@@ -9,7 +9,7 @@ ghost use Rattle.pb_play.specs.Worlds.{IsShaped, HasRoom};
 ghost use Rattle.pb_replay.specs.Playing.{HasMade, HasPlayed, HasRoomFor, TakesRoom, MakesEvent, MakesEvents, PlaysLine, Plays, event_times, IsAccepted};
 ghost use Rattle.pb_replay.specs.Survey.{count_events};
 
-use pb_core::{Event, Stepped};
+use pb_events::{Event, Stepped};
 use pb_layout::Header;
 use pb_play::{World, step};
 use pb_script::{EventLine, Repeat, ScriptFault, cut_line, read_event_line};

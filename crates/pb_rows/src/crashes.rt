@@ -3,7 +3,8 @@ use crate::rows::{
     FIRST, FIRST_REPORT, FRESH, FRESH_TWO, NEW, Row, TWO, call, calls, chained, report_two,
 };
 use crate::run::{failing, run};
-use pb_image::{Call, How, Image};
+use pb_crash::Leaves;
+use pb_image::{Call, Image};
 use std::alloc::Global;
 use std::process::Abort;
 use std::sync::Wait;
@@ -155,7 +156,7 @@ fn of_torn_records_and_of_doubt(rt: HostRuntime) {
     let doubt = calls(
         &rt,
         alloc,
-        failing(&rt, alloc, Call::Sync, &[2], How::Left),
+        failing(&rt, alloc, Call::Sync, &[2], Leaves::Left),
         &DOUBT,
     );
     goes_on(&rt, alloc, after(&rt, alloc, &doubt, 39, 3, 0), NEW, 0);

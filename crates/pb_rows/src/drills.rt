@@ -2,7 +2,8 @@
 use crate::each_call::{Case, fails_at_each};
 use crate::rows::{Row, call, calls, chained};
 use crate::run::{failing, run_into, sink, source, zeros};
-use pb_image::{Call, How};
+use pb_crash::Leaves;
+use pb_image::Call;
 use pb_io::Source;
 use pb_object::Kind;
 use pb_script::{generate, print_script};
@@ -69,9 +70,9 @@ const IN_DOUBT: [Row; 3] = [
 #[test]
 fn of_a_device_that_fails(rt: HostRuntime) {
     let alloc = rt.alloc();
-    let unmade = failing(&rt, alloc, Call::Sync, &[1], How::Left);
+    let unmade = failing(&rt, alloc, Call::Sync, &[1], Leaves::Left);
     calls(&rt, alloc, unmade, &NOT_MADE);
-    let doubtful = failing(&rt, alloc, Call::Sync, &[2], How::Left);
+    let doubtful = failing(&rt, alloc, Call::Sync, &[2], Leaves::Left);
     calls(&rt, alloc, doubtful, &IN_DOUBT);
 }
 
@@ -124,7 +125,7 @@ fn script(rt: &(impl Abort + Wait + Threads + Sync), alloc: Global) -> Vec<u8> {
 fn that_the_script_takes_to_its_end(rt: HostRuntime) {
     let alloc = rt.alloc();
     assert!(rt; script(&rt, alloc).as_slice() == FIVE.1.as_bytes());
-    fails_at_each(&rt, alloc, &FIVE, (Call::Any, How::Left), 116);
-    fails_at_each(&rt, alloc, &FIVE, (Call::Any, How::Done), 116);
-    fails_at_each(&rt, alloc, &FIVE, (Call::Sync, How::Fenced), 6);
+    fails_at_each(&rt, alloc, &FIVE, (Call::Any, Leaves::Left), 116);
+    fails_at_each(&rt, alloc, &FIVE, (Call::Any, Leaves::Done), 116);
+    fails_at_each(&rt, alloc, &FIVE, (Call::Sync, Leaves::Fenced), 6);
 }

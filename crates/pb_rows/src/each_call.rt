@@ -3,7 +3,8 @@
 use crate::rows;
 use crate::rows::{FIRST, FIRST_REPORT, FRESH_TWO, NEW, TWO, report_two};
 use crate::run::{failing, run};
-use pb_image::{Call, How, Image};
+use pb_crash::Leaves;
+use pb_image::{Call, Image};
 use std::alloc::Global;
 use std::process::Abort;
 use std::sync::Wait;
@@ -22,7 +23,7 @@ const QUEUE: Case = (
 );
 
 /// Which calls fail, and how. What is torn but no write, or fenced but no sync, leaves nothing.
-pub type Way = (Call, How);
+pub type Way = (Call, Leaves);
 
 // Runs the script again to its end, and makes the region first where there is none.
 fn to_the_end(
@@ -77,22 +78,22 @@ pub fn fails_at_each(
 
 #[test]
 fn of_a_map(rt: HostRuntime) {
-    fails_at_each(&rt, rt.alloc(), &MAP, (Call::Any, How::Left), 50);
-    fails_at_each(&rt, rt.alloc(), &MAP, (Call::Any, How::Done), 50);
-    fails_at_each(&rt, rt.alloc(), &MAP, (Call::Write, How::Torn(9)), 26);
-    fails_at_each(&rt, rt.alloc(), &MAP, (Call::Sync, How::Fenced), 3);
+    fails_at_each(&rt, rt.alloc(), &MAP, (Call::Any, Leaves::Left), 50);
+    fails_at_each(&rt, rt.alloc(), &MAP, (Call::Any, Leaves::Done), 50);
+    fails_at_each(&rt, rt.alloc(), &MAP, (Call::Write, Leaves::Torn(9)), 26);
+    fails_at_each(&rt, rt.alloc(), &MAP, (Call::Sync, Leaves::Fenced), 3);
 }
 
 #[test]
 fn of_a_queue_that_leaves_nothing(rt: HostRuntime) {
-    fails_at_each(&rt, rt.alloc(), &QUEUE, (Call::Any, How::Left), 112);
+    fails_at_each(&rt, rt.alloc(), &QUEUE, (Call::Any, Leaves::Left), 112);
 }
 
 #[test]
 fn of_a_queue_that_leaves_something(rt: HostRuntime) {
-    fails_at_each(&rt, rt.alloc(), &QUEUE, (Call::Any, How::Done), 112);
-    fails_at_each(&rt, rt.alloc(), &QUEUE, (Call::Write, How::Torn(9)), 64);
-    fails_at_each(&rt, rt.alloc(), &QUEUE, (Call::Sync, How::Fenced), 7);
+    fails_at_each(&rt, rt.alloc(), &QUEUE, (Call::Any, Leaves::Done), 112);
+    fails_at_each(&rt, rt.alloc(), &QUEUE, (Call::Write, Leaves::Torn(9)), 64);
+    fails_at_each(&rt, rt.alloc(), &QUEUE, (Call::Sync, Leaves::Fenced), 7);
 }
 
 // Two clients share the region, whose device fails at a call, if there are so many. One of them goes on where the other one's request is in
@@ -122,7 +123,7 @@ fn two_fail_at(
 #[test]
 fn of_two_clients(rt: HostRuntime) {
     for nth in 1..67 {
-        two_fail_at(&rt, rt.alloc(), (Call::Any, How::Left), nth);
-        two_fail_at(&rt, rt.alloc(), (Call::Any, How::Done), nth);
+        two_fail_at(&rt, rt.alloc(), (Call::Any, Leaves::Left), nth);
+        two_fail_at(&rt, rt.alloc(), (Call::Any, Leaves::Done), nth);
     }
 }

@@ -1,7 +1,8 @@
 //! Runs in which a call of the device, the source or the sink fails, and the runs after them.
 use crate::rows::{FIRST, FIRST_REPORT, FRESH, FRESH_TWO, NEW, Row, TWO, call, calls, report_two};
 use crate::run::{failing, run, run_into, sink, source, zeros};
-use pb_image::{Call, How, Image};
+use pb_crash::Leaves;
+use pb_image::{Call, Image};
 use std::alloc::Global;
 use std::process::Abort;
 use std::sync::Wait;
@@ -59,7 +60,7 @@ fn over(
     nth: u64,
     rows: &[Row],
 ) -> Image {
-    calls(rt, alloc, failing(rt, alloc, call, &[nth], How::Left), rows)
+    calls(rt, alloc, failing(rt, alloc, call, &[nth], Leaves::Left), rows)
 }
 
 #[test]
@@ -83,7 +84,7 @@ const BOTH_KEPT: Row = ("run", TWO, "0 1 kept was 0 1\n1 1 kept was 0 1\n", 0, N
 
 // Makes the two clients' calls: one of their requests is in doubt, and both are recorded all the same.
 fn two_of_whom_one_is_in_doubt(rt: &(impl Abort + Wait + Threads + Sync), alloc: Global) {
-    let device = failing(rt, alloc, Call::Sync, &[2], How::Left);
+    let device = failing(rt, alloc, Call::Sync, &[2], Leaves::Left);
     let (done, sink) = run(rt, alloc, FRESH_TWO.0, TWO, 4096, device);
     let is_said = ONE_IN_DOUBT
         .iter()

@@ -2,7 +2,8 @@
 use crate::rows::FIRST;
 use crate::run::{failing, run_into, sink, source, zeros};
 use pb_broker::Done;
-use pb_image::{Call, How, Image};
+use pb_crash::Leaves;
+use pb_image::{Call, Image};
 use pb_io::Source;
 use pb_pmem::Pmem;
 use std::alloc::Global;
@@ -84,7 +85,7 @@ fn over_failing(
     call: Call,
     fails: &[u64],
 ) -> (u8, u64) {
-    let done = over_device(rt, alloc, failing(rt, alloc, call, fails, How::Left));
+    let done = over_device(rt, alloc, failing(rt, alloc, call, fails, Leaves::Left));
     (done.status.code(), done.device.faults())
 }
 

@@ -1,6 +1,7 @@
 //! A run of the program, with arguments that a test makes.
 use pb_broker::{Done, top};
-use pb_image::{Call, Fail as Failure, How, Image};
+use pb_crash::Leaves;
+use pb_image::{Call, Fail as Failure, Image};
 use pb_io::{ByteSink, ByteSource, Gate, OpenGate, Sink, Source};
 use pb_pmem::Pmem;
 use std::alloc::Global;
@@ -41,7 +42,7 @@ pub fn failing(
     alloc: Global,
     call: Call,
     fails: &[u64],
-    how: How,
+    how: Leaves,
 ) -> Image {
     let mut failures = Vec::new(alloc);
     for nth in fails {

@@ -2,8 +2,9 @@
 use crate::scripts::{Plan, script};
 use crate::session::{MapEngine, Ran, run};
 use pb_comb::Comb;
+use pb_crash::Leaves;
 use pb_engine::Engine;
-use pb_image::{Call, Fail, How, Image};
+use pb_image::{Call, Fail, Image};
 use pb_map::RegMap;
 use pb_object::{Answer, Object, Reply};
 use pb_report::Outcome;
@@ -25,12 +26,12 @@ fn reply(number: u64) -> Reply {
 }
 
 // How a call at a place fails: in turns in each way.
-fn way(nth: u64) -> How {
+fn way(nth: u64) -> Leaves {
     match nth % 4 {
-        0 => How::Left,
-        1 => How::Done,
-        2 => How::Torn(9),
-        _ => How::Fenced,
+        0 => Leaves::Left,
+        1 => Leaves::Done,
+        2 => Leaves::Torn(9),
+        _ => Leaves::Fenced,
     }
 }
 

@@ -4,8 +4,9 @@ ghost use Rattle.pb_engine.specs.View.{IsEngine};
 ghost use Rattle.pb_script.specs.Script.{IsAskOf};
 
 use pb_comb::Comb;
+use pb_crash::Leaves;
 use pb_engine::Engine;
-use pb_image::{Call, Fail, How, Image};
+use pb_image::{Call, Fail, Image};
 use pb_io::{ByteSink, OpenGate};
 use pb_map::RegMap;
 use pb_object::Ask;
@@ -28,7 +29,7 @@ fn device(rt: &impl Abort, alloc: Global, syncs: &[u64]) -> Image {
         let fail = Fail {
             call: Call::Sync,
             nth: *nth,
-            how: How::Left,
+            how: Leaves::Left,
         };
         fails.push(fail).expect(rt, "memory");
     }

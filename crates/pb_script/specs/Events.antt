@@ -1,13 +1,13 @@
 -- How the fields of a line name events.
 use Rattle.std.specs.Prelude.{ℕ, ◌+◌, List, [], ◌∷◌, Option, Some, None, codes, if◌then◌else◌}
 use Rattle.std.specs.Str.{bytes_eq}
-use Rattle.pb_image.specs.declared.fail.How.{How}
-use Rattle.pb_image.specs.declared.fail.How.TheVariants.{Left, Done, Torn, Fenced}
+use Rattle.pb_crash.specs.declared.leaves.Leaves.{Leaves}
+use Rattle.pb_crash.specs.declared.leaves.Leaves.TheVariants.{Left, Done, Torn, Fenced}
 use Rattle.pb_object.specs.declared.kind.Kind.{Kind}
 use Rattle.pb_object.specs.declared.request.Ask.{Ask}
 use Rattle.pb_object.specs.Number.{number_of}
-use Rattle.pb_core.specs.declared.event.Event.{Event}
-use Rattle.pb_core.specs.declared.event.Event.TheVariants.{Ask as AskEvent, Step, Fail, Crash, Reopen, ReopenFail}
+use Rattle.pb_events.specs.declared.event.Event.{Event}
+use Rattle.pb_events.specs.declared.event.Event.TheVariants.{Ask as AskEvent, Step, Fail, Crash, Reopen, ReopenFail}
 use Rattle.pb_script.specs.declared.event.EventLine.{EventLine}
 use Rattle.pb_script.specs.declared.event.EventLine.TheVariants.{Nothing, Refused, Events}
 use Rattle.pb_script.specs.declared.event.Repeat.{Repeat}
@@ -36,19 +36,19 @@ times_of (word ∷ others) = do
   if_last times others
 
 -- what a failing call leaves
-unfoldable pub torn_of : List (List ℕ) → Option How
+unfoldable pub torn_of : List (List ℕ) → Option Leaves
 torn_of words = do
   value ← any_number words
   if_last (Torn value.0) value.1
 
-abbrev pub how_with : List ℕ → List (List ℕ) → Option How
+abbrev pub how_with : List ℕ → List (List ℕ) → Option Leaves
 how_with word others =
     if bytes_eq word (codes "left") then if_last Left others else
     (if bytes_eq word (codes "done") then if_last Done others else
     (if bytes_eq word (codes "torn") then torn_of others else
     (if bytes_eq word (codes "fenced") then if_last Fenced others else None)))
 
-unfoldable pub how_of : List (List ℕ) → Option How
+unfoldable pub how_of : List (List ℕ) → Option Leaves
 how_of [] = None
 how_of (word ∷ others) = how_with word others
 

@@ -7,8 +7,8 @@ ghost use Rattle.pb_script.specs.Words.{words, fields};
 use crate::request::{next_number, number_within, read_op};
 use crate::script::is_request;
 use crate::words::{cut_word, without_return};
-use pb_core::Event;
-use pb_image::How;
+use pb_crash::Leaves;
+use pb_events::Event;
 use pb_object::{Ask, Kind, parse_number};
 
 /// How often one line may name an event.
@@ -173,25 +173,25 @@ fn read_times(text: &[u8]) -> Option<u32>
 
 /// What a failing call leaves, by a text's words.
 #[tactic(auto, unfolding(crate::specs::Events::how_of))]
-fn read_how(text: &[u8]) -> Option<How>
+fn read_how(text: &[u8]) -> Option<Leaves>
     ensures { result ≡ how_of (words text.now) }
 {
     let (word, rest) = cut_word(text)?;
     match word {
-        b"left" => last(How::Left, rest),
-        b"done" => last(How::Done, rest),
+        b"left" => last(Leaves::Left, rest),
+        b"done" => last(Leaves::Done, rest),
         b"torn" => read_torn(rest),
-        b"fenced" => last(How::Fenced, rest),
+        b"fenced" => last(Leaves::Fenced, rest),
         _ => None,
     }
 }
 
 #[tactic(auto, unfolding(crate::specs::Events::torn_of))]
-fn read_torn(text: &[u8]) -> Option<How>
+fn read_torn(text: &[u8]) -> Option<Leaves>
     ensures { result ≡ torn_of (words text.now) }
 {
     let (value, rest) = next_any(text)?;
-    last(How::Torn(value), rest)
+    last(Leaves::Torn(value), rest)
 }
 
 /// The number that a text's first word writes, whichever it is, and what stands after it.

@@ -4,7 +4,8 @@ ghost use Rattle.pb_shared.specs.Passes.{AreAll, HasOpened, IsOf};
 
 use crate::calls::{again, announce, attempt, perform};
 use pb_comb::Comb;
-use pb_image::{Call, Fail, How, Image};
+use pb_crash::Leaves;
+use pb_image::{Call, Fail, Image};
 use pb_map::RegMap;
 use pb_object::{Op, Reply};
 use pb_pmem::LogOp;
@@ -17,7 +18,7 @@ use std::test::Fail as Failed;
 pub type MapEngine = Comb<RegMap, Image>;
 
 /// A device of which these syncs fail.
-pub fn device(rt: &impl Abort, alloc: Global, room: u32, syncs: &[(u64, How)]) -> Image {
+pub fn device(rt: &impl Abort, alloc: Global, room: u32, syncs: &[(u64, Leaves)]) -> Image {
     let mut fails = Vec::new(alloc);
     for sync in syncs {
         let fail = Fail {
@@ -80,7 +81,7 @@ fn was(value: u64, version: u64) -> Reply {
 fn two(
     rt: &impl Abort,
     alloc: Global,
-    syncs: &[(u64, How)],
+    syncs: &[(u64, Leaves)],
 ) -> (Shared<MapEngine>, Pass<MapEngine>, Pass<MapEngine>)
     ensures clients { result.0.start.standing.clients ≡ 2 }
     ensures first { IsOf result.0 result.1 }
@@ -154,7 +155,7 @@ fn one_round_serves_both(rt: HostRuntime) {
 // The first one's sync fails: the second one settles, and its round serves it.
 #[test]
 fn another_settles(rt: HostRuntime) {
-    let (object, mut first, mut second) = two(&rt, rt.alloc(), &[(2, How::Left)]);
+    let (object, mut first, mut second) = two(&rt, rt.alloc(), &[(2, Leaves::Left)]);
     announce(&rt, &object, &mut first, &put(0, 5));
     announce(&rt, &object, &mut second, &put(1, 6));
     let answer = attempt(&rt, &object, &mut first);
@@ -168,7 +169,7 @@ fn another_settles(rt: HostRuntime) {
 // Where it announces after the fault, the round that it settles lacks its request.
 #[test]
 fn settling_another_round_is_busy(rt: HostRuntime) {
-    let (object, mut first, mut second) = two(&rt, rt.alloc(), &[(2, How::Left)]);
+    let (object, mut first, mut second) = two(&rt, rt.alloc(), &[(2, Leaves::Left)]);
     announce(&rt, &object, &mut first, &put(0, 5));
     let answer = attempt(&rt, &object, &mut first);
     assert!(&rt; answer == Attempt::Fault { from: 0, to: 1 });
@@ -182,7 +183,7 @@ fn settling_another_round_is_busy(rt: HostRuntime) {
 // Settling fails too: the third try settles.
 #[test]
 fn settling_fails_once(rt: HostRuntime) {
-    let (object, mut first, mut second) = two(&rt, rt.alloc(), &[(2, How::Done), (3, How::Left)]);
+    let (object, mut first, mut second) = two(&rt, rt.alloc(), &[(2, Leaves::Done), (3, Leaves::Left)]);
     announce(&rt, &object, &mut first, &put(0, 5));
     announce(&rt, &object, &mut second, &put(1, 6));
     let answer = attempt(&rt, &object, &mut first);

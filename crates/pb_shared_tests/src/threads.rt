@@ -4,8 +4,8 @@ ghost use Rattle.pb_shared.specs.Passes.{IsOf};
 
 use crate::calls::{announce, perform};
 use crate::rows::{MapEngine, device, map, put, shared};
+use pb_crash::Leaves;
 use pb_engine::Engine;
-use pb_image::How;
 use pb_object::Object;
 use pb_shared::{Pass, Performed, Shared};
 use std::alloc::Global;
@@ -126,12 +126,12 @@ fn closed(
 #[test]
 fn four_threads_are_all_served_once(rt: HostRuntime) {
     let syncs = [
-        (5, How::Left),
-        (9, How::Done),
-        (20, How::Left),
-        (21, How::Left),
-        (50, How::Fenced),
-        (90, How::Left),
+        (5, Leaves::Left),
+        (9, Leaves::Done),
+        (20, Leaves::Left),
+        (21, Leaves::Left),
+        (50, Leaves::Fenced),
+        (90, Leaves::Left),
     ];
     let engine = map(&rt, rt.alloc(), device(&rt, rt.alloc(), 100000, &syncs), 4);
     let (object, passes) = shared(&rt, rt.alloc(), engine);

@@ -1,6 +1,6 @@
 //! Lines of schedules are read.
-use pb_core::Event;
-use pb_image::How;
+use pb_crash::Leaves;
+use pb_events::Event;
 use pb_object::{Ask, Kind, Op};
 use pb_script::{EventLine, Repeat, read_event_line};
 
@@ -91,7 +91,7 @@ const PUT: Ask = Ask {
 
 #[test]
 fn reads_each_event(rt: HostRuntime) {
-    let how = How::Torn(9);
+    let how = Leaves::Torn(9);
     let table: [(&[u8], EventLine); 6] = [
         (b"ask 0 1 put 3 77", repeated(Event::Ask(PUT), 1)),
         (b"step 0 26", repeated(Event::Step { client: 0 }, 26)),
@@ -103,7 +103,7 @@ fn reads_each_event(rt: HostRuntime) {
         (b"open 2", repeated(Event::Reopen, 2)),
         (
             b"openfail fenced",
-            repeated(Event::ReopenFail { how: How::Fenced }, 1),
+            repeated(Event::ReopenFail { how: Leaves::Fenced }, 1),
         ),
     ];
     for (line, want) in &table {

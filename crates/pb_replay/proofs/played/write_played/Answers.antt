@@ -1,6 +1,6 @@
 use Rattle.std.proofs.Common.{◌++◌, List, subst}
 use Rattle.std.specs.Prelude.{OnErr}
-use Rattle.pb_core.specs.declared.event.Stepped.{Stepped}
+use Rattle.pb_events.specs.declared.event.Stepped.{Stepped}
 use Rattle.pb_io.specs.SinkBytes.{AppendsSome}
 use Rattle.pb_region_report.specs.AnyEngine.{view_of}
 use Rattle.pb_region_report.specs.ReportText.{report_text}

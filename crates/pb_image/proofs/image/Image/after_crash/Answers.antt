@@ -1,8 +1,9 @@
 use Rattle.std.proofs.Common.{◌≡◌, length, take, ap, sym, subst, ◌∙◌}
 use Rattle.std.proofs.lemmas.Result.{IfOk-weaker}
 use Rattle.pb_pmem.specs.Crash.{IsCrashImageAtCut}
-use Rattle.pb_image.specs.Picked.{picked}
-use Rattle.pb_image.proofs.Crashed.{length-picked, IsCrashImageAtCut-picked, IsAtRest-IsNew}
+use Rattle.pb_crash.specs.Picked.{picked}
+use Rattle.pb_crash.proofs.Crashed.{length-picked, IsCrashImageAtCut-picked}
+use Rattle.pb_image.proofs.Begun.{IsAtRest-IsNew}
 use Rattle.pb_image.proofs.image.Image.after_crash.Goals as goal
 
 pub begin-requires : goal.begin-requires

@@ -1,6 +1,6 @@
 use Rattle.std.proofs.Common.{length, ap, ◌∙◌}
 use Rattle.pb_pmem.specs.declared.line.TheConstants.{LINES}
-use Rattle.pb_image.proofs.Crashed.{length-lines_of_bytes}
+use Rattle.pb_image.proofs.Begun.{length-lines_of_bytes}
 use Rattle.pb_image.proofs.image.Image.from_bytes.Goals as goal
 
 pub begin-requires : goal.begin-requires

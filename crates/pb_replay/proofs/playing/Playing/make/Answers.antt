@@ -1,7 +1,7 @@
 use Rattle.std.proofs.Common.{sym, ap, ◌∙◌}
 use Rattle.std.specs.Prelude.{◌++◌}
 use Rattle.std.proofs.lemmas.List.{append-nil}
-use Rattle.pb_core.specs.declared.event.Stepped.{Stepped}
+use Rattle.pb_events.specs.declared.event.Stepped.{Stepped}
 use Rattle.pb_replay.specs.AnswerText.{given_by}
 use Rattle.pb_replay.proofs.Making.{happened, stuck, made_one, gives, went_on, is_done, is_busy, is_fault, given_done, given_busy, given_fault}
 use Rattle.pb_replay.proofs.playing.Playing.make.Goals as goal

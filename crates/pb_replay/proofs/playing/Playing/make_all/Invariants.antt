@@ -1,5 +1,5 @@
 use Rattle.std.specs.Prelude.{List}
-use Rattle.pb_core.specs.declared.event.Event.{Event}
+use Rattle.pb_events.specs.declared.event.Event.{Event}
 use Rattle.pb_layout.specs.declared.header.Header.{Header}
 use Rattle.pb_play.specs.Worlds.{IsShaped}
 use Rattle.pb_replay.specs.Playing.{HasMade, TakesRoom}

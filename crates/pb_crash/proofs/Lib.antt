@@ -1,0 +1,4 @@
+pub mod Crashed
+pub mod Doing
+pub mod Leaving
+pub mod Steps

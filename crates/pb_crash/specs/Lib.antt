@@ -1,0 +1,4 @@
+pub mod Backs
+pub mod Leaves
+pub mod Picked
+pub mod Within

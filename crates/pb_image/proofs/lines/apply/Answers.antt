@@ -1,4 +1,0 @@
-use Rattle.pb_image.proofs.lines.apply.Goals as goal
-
-pub returns-in-Word : goal.returns-in-Word
-returns-in-Word c = rw c.in-Word.is c.set_word.ensures
