@@ -2,8 +2,10 @@
 #![tactic(auto)]
 
 mod advice;
+mod device;
 
 use crate::advice::advice;
+use crate::device::ProgramDevice;
 use pb_broker::{Status, top};
 use pb_file::FileDev;
 use pb_image::Image;
@@ -34,10 +36,9 @@ fn main(rt: HostRuntime) -> ExitCode {
     let status = match words(&rt) {
         Ok(words) => {
             let (place, command) = device_and_command(&words);
-            if place == TRIAL {
-                run_over(&rt, command, Image::zero(rt.alloc(), TRIAL_ROOM))
-            } else {
-                run_over(&rt, command, FileDev::new(&rt, place))
+            match device_at(&rt, place) {
+                Ok(device) => run_over(&rt, command, device),
+                Err(_) => Status::OutOfMemory,
             }
         }
         Err(_) => Status::OutOfMemory,
@@ -56,16 +57,23 @@ fn device_and_command(words: &[String]) -> (&str, &[String]) {
     }
 }
 
-/// Runs the words over a device for which there was memory, from standard input to standard output.
+/// The device that the word names: a trial device, or the file of this path.
+fn device_at(rt: &HostRuntime, place: &str) -> Result<ProgramDevice<HostRuntime>, AllocError> {
+    if place == TRIAL {
+        let image = Image::zero(rt.alloc(), TRIAL_ROOM)?;
+        Ok(ProgramDevice::Trial(image))
+    } else {
+        let file = FileDev::new(rt, place)?;
+        Ok(ProgramDevice::File(file))
+    }
+}
+
+/// Runs the words over a device, from standard input to standard output.
 fn run_over<R: Input + Print + AllocGlobal + Wait + Threads + Sync, P: Pmem + Send>(
     rt: &R,
     command: &[String],
-    device: Result<P, AllocError>,
+    device: P,
 ) -> Status {
-    let device = match device {
-        Ok(device) => device,
-        Err(_) => return Status::OutOfMemory,
-    };
     let mut source = StdSource::new(rt.reader());
     let mut sink = StdSink::new(io::writer(rt));
     let done = top(
