@@ -11,11 +11,11 @@ ghost use Rattle.pb_broker.specs.declared.source.TheConstants.{SOURCE_LIMIT};
 
 use crate::stop::Stop;
 use pb_engine::Engine;
-use pb_io::Gate;
 use pb_object::{Ask, Kind};
 use pb_report::Outcome;
 use pb_run::run_script;
 use pb_script::{generate, parse_script};
+use pb_shared::Gate;
 use std::alloc::{AllocError, Global};
 use std::sync::Wait;
 use std::thread::Threads;

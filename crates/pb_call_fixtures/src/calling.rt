@@ -1,7 +1,8 @@
 //! A call of the program.
 use pb_broker::top;
-use pb_io::{ByteSink, ByteSource, Gate, OpenGate, Sink, Source};
+use pb_io::{ByteSink, ByteSource, Sink, Source};
 use pb_pmem::Pmem;
+use pb_shared::{Gate, OpenGate};
 use std::alloc::{AllocError, Global};
 use std::sync::Wait;
 use std::thread::Threads;

@@ -2,7 +2,8 @@
 use pb_broker::top;
 use pb_crash::Leaves;
 use pb_image::{Call, Fail, Image};
-use pb_io::{ByteSink, ByteSource, OpenGate};
+use pb_io::{ByteSink, ByteSource};
+use pb_shared::OpenGate;
 use std::alloc::Global;
 use std::process::Abort;
 use std::sync::Wait;

@@ -1,7 +1,5 @@
-//! Sources and sinks, in memory and over the standard reader and writer, and the open gate.
-use pb_io::{
-    ByteSink, ByteSource, Gate, OpenGate, Sink, SinkFault, Source, SourceFault, StdSink, StdSource,
-};
+//! Sources and sinks, in memory and over the standard reader and writer.
+use pb_io::{ByteSink, ByteSource, Sink, SinkFault, Source, SourceFault, StdSink, StdSource};
 use std::alloc::Global;
 use std::io::{self, Cursor, ErrorKind, Read, Write};
 use std::process::Abort;
@@ -186,14 +184,4 @@ fn an_error_of_a_standard_writer_is_a_fault(rt: HostRuntime) {
     ];
     assert!(rt; takes(&mut sink, &pieces) && sink.flush() == Err(SinkFault));
     assert!(rt; sink.faults() == 3);
-}
-
-fn pass<G: Gate>(gate: &G) {
-    gate.before(0, 1);
-    gate.busy(0, 1);
-}
-
-#[test]
-fn the_open_gate_holds_nobody() {
-    pass(&OpenGate);
 }

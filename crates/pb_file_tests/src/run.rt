@@ -1,7 +1,8 @@
 //! A run of the program over a file, and the folder that the tests' files stand in.
 use pb_broker::top;
-use pb_io::{ByteSink, ByteSource, OpenGate};
+use pb_io::{ByteSink, ByteSource};
 use pb_pmem::Pmem;
+use pb_shared::OpenGate;
 use std::alloc::Global;
 use std::fs;
 use std::fs::Files;

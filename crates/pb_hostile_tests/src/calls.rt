@@ -1,7 +1,8 @@
 //! A call of the program over a device in memory.
 use pb_broker::top;
 use pb_image::Image;
-use pb_io::{ByteSink, ByteSource, OpenGate};
+use pb_io::{ByteSink, ByteSource};
+use pb_shared::OpenGate;
 use std::alloc::Global;
 use std::process::Abort;
 use std::sync::Wait;

@@ -60,7 +60,12 @@ fn over(
     nth: u64,
     rows: &[Row],
 ) -> Image {
-    calls(rt, alloc, failing(rt, alloc, call, &[nth], Leaves::Left), rows)
+    calls(
+        rt,
+        alloc,
+        failing(rt, alloc, call, &[nth], Leaves::Left),
+        rows,
+    )
 }
 
 #[test]

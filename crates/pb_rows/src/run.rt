@@ -2,8 +2,9 @@
 use pb_broker::{Done, top};
 use pb_crash::Leaves;
 use pb_image::{Call, Fail as Failure, Image};
-use pb_io::{ByteSink, ByteSource, Gate, OpenGate, Sink, Source};
+use pb_io::{ByteSink, ByteSource, Sink, Source};
 use pb_pmem::Pmem;
+use pb_shared::{Gate, OpenGate};
 use std::alloc::Global;
 use std::process::Abort;
 use std::sync::Wait;

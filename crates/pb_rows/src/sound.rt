@@ -2,7 +2,7 @@
 use crate::rows::{FIRST, NEW};
 use crate::run::{run_over, sink, source};
 use pb_image::Sound;
-use pb_io::OpenGate;
+use pb_shared::OpenGate;
 use std::alloc::Global;
 use std::process::Abort;
 use std::sync::Wait;

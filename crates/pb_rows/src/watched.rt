@@ -3,8 +3,8 @@ ghost use Rattle.std.specs.Prelude.{◌≡◌, ◌+◌, ◌<◌, ◌≤◌, OnOk
 ghost use Rattle.pb_pmem.specs.declared.line.TheConstants.{LINES};
 
 use pb_image::Image;
-use pb_io::Gate;
 use pb_pmem::{Line, Pmem, PmemFault};
+use pb_shared::Gate;
 use std::sync::atomic::{AtomicU64, Ordering};
 
 /// A device in memory that counts the calls that change it or order what a crash may leave.

@@ -6,10 +6,9 @@ ghost use Rattle.pb_run.specs.Worker.{IsReady, HasWorked, IsLineOf};
 
 use crate::lines::Lines;
 use pb_engine::Engine;
-use pb_io::Gate;
 use pb_object::Ask;
 use pb_report::Outcome;
-use pb_shared::{Again, Pass, Performed, Shared};
+use pb_shared::{Again, Gate, Pass, Performed, Shared};
 use std::sync::Wait;
 
 /// A client of a shared object, with its requests.

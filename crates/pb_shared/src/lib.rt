@@ -4,6 +4,7 @@
 mod answers;
 mod asks;
 mod fill;
+mod gate;
 mod holder;
 mod judge;
 mod lists;
@@ -15,5 +16,6 @@ mod shared;
 mod tries;
 
 pub use answers::{Again, Attempt, Performed};
+pub use gate::{Gate, OpenGate};
 pub use pass::Pass;
 pub use shared::Shared;

@@ -1,6 +1,7 @@
 //! A shared object.
 use crate::answers::{Again, Attempt, Performed};
 use crate::asks::announce_request;
+use crate::gate::Gate;
 use crate::judge::judge;
 use crate::lists::{keep_in_front, recorded};
 use crate::pass::Pass;
@@ -8,7 +9,6 @@ use crate::passes::{add_passes, all_lists, join_all, pending_number};
 use crate::tries::make_try;
 use crossbeam_utils::Backoff;
 use pb_engine::Engine;
-use pb_io::Gate;
 use pb_object::{Ask, Op};
 use pb_rule::opening::{Words, make_table, take_engine};
 use std::alloc::{AllocError, Global};

@@ -2,9 +2,8 @@
 ghost use Rattle.pb_shared.specs.Passes.{IsOf};
 
 use crate::rows::MapEngine;
-use pb_io::OpenGate;
 use pb_object::{Kind, LAST_NUMBER, Op, is_operation};
-use pb_shared::{Again, Attempt, Pass, Performed, Shared};
+use pb_shared::{Again, Attempt, OpenGate, Pass, Performed, Shared};
 use std::process::Abort;
 use std::sync::Wait;
 

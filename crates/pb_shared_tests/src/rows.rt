@@ -183,7 +183,11 @@ fn settling_another_round_is_busy(rt: HostRuntime) {
 // Settling fails too: the third try settles.
 #[test]
 fn settling_fails_once(rt: HostRuntime) {
-    let (object, mut first, mut second) = two(&rt, rt.alloc(), &[(2, Leaves::Done), (3, Leaves::Left)]);
+    let (object, mut first, mut second) = two(
+        &rt,
+        rt.alloc(),
+        &[(2, Leaves::Done), (3, Leaves::Left)],
+    );
     announce(&rt, &object, &mut first, &put(0, 5));
     announce(&rt, &object, &mut second, &put(1, 6));
     let answer = attempt(&rt, &object, &mut first);

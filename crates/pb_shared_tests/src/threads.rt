@@ -7,7 +7,7 @@ use crate::rows::{MapEngine, device, map, put, shared};
 use pb_crash::Leaves;
 use pb_engine::Engine;
 use pb_object::Object;
-use pb_shared::{Pass, Performed, Shared};
+use pb_shared::{Gate, OpenGate, Pass, Performed, Shared};
 use std::alloc::Global;
 use std::process::Abort;
 use std::sync::Wait;
@@ -173,4 +173,14 @@ fn four_threads_are_all_served_once(rt: HostRuntime) {
         assert!(&rt; register == (REQUESTS, REQUESTS));
     }
     assert!(&rt; engine.rounds() <= 4 * REQUESTS);
+}
+
+fn pass<G: Gate>(gate: &G) {
+    gate.before(0, 1);
+    gate.busy(0, 1);
+}
+
+#[test]
+fn the_open_gate_holds_nobody() {
+    pass(&OpenGate);
 }

@@ -1,6 +1,6 @@
 //! Gates that hold the workers of a run.
 use crate::flags::{Flag, Hall};
-use pb_io::Gate;
+use pb_shared::Gate;
 
 /// A gate at which two clients meet before their first requests.
 #[derive(Drop)]

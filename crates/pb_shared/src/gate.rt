@@ -1,3 +1,5 @@
+//! What workers pass between their tries.
+
 /// What the workers of a run pass: it lets a test hold them. Both calls may wait.
 ///
 /// A gate that waits holds the handle for it, as `struct Held<R: Wait>` does.
