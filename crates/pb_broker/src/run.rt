@@ -180,7 +180,7 @@ fn run_found<R: Wait + Threads + Sync, E: Engine + Send, G: Gate>(
         (λ served. ServesFound (E.seen engine).standing.kind (E.seen engine) bytes.now (E.seen result.0) served.asks.items served.outcomes.items) }
     ensures err { IfErr result.1 (StopsFound (E.seen engine).standing.kind (E.seen engine) bytes.now (E.seen result.0)) }
 {
-    let requests = match read_requests(alloc, bytes, E::KIND, engine.clients()) {
+    let requests = match read_requests(alloc, bytes, engine.kind(), engine.clients()) {
         Ok(requests) => requests,
         Err(stop) => return (engine, Err(stop)),
     };

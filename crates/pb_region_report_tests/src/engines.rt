@@ -66,7 +66,7 @@ fn run_line<R: Wait + Threads + Sync + Abort, E: Engine + Send>(
 ) -> Result<E, AllocError> {
     assert!(rt; settle(&mut engine).is_ok() && line.len() < 65536);
     let clients = engine.clients();
-    let Ok(asks) = parse_script(alloc, line.as_bytes(), E::KIND, clients) else {
+    let Ok(asks) = parse_script(alloc, line.as_bytes(), engine.kind(), clients) else {
         panic!(rt; "the request is read");
     };
     let mut outcomes = vec![in alloc; Outcome::Left; asks.len()]?;

@@ -63,11 +63,11 @@ fn settle<E: Engine>(engine: &mut E) -> Result<(), DeviceFault>
 
 // The requests of a script for this engine.
 fn asks_of<E: Engine>(rt: &impl Abort, alloc: Global, engine: &E, script: &str) -> Vec<Ask>
-    ensures asks { All (IsAskOf E.KIND (E.seen engine.now).standing.clients) result.items }
-    ensures sound { IsEngine E.KIND (E.seen engine.now) }
+    ensures asks { All (IsAskOf (E.seen engine.now).standing.kind (E.seen engine.now).standing.clients) result.items }
+    ensures sound { IsEngine (E.seen engine.now).standing.kind (E.seen engine.now) }
 {
     assert!(rt; script.len() < 1_048_576);
-    match parse_script(alloc, script.as_bytes(), E::KIND, engine.clients()) {
+    match parse_script(alloc, script.as_bytes(), engine.kind(), engine.clients()) {
         Ok(asks) => asks,
         Err(_) => panic!(rt; "the script is read"),
     }

@@ -45,11 +45,11 @@ pub fn held(rt: &impl Abort, alloc: Global, hall: &Arc<Hall, Global>, others: us
 
 // The requests of a script for this engine.
 fn asks_of<E: Engine>(rt: &impl Abort, alloc: Global, engine: &E, script: &str) -> Vec<Ask>
-    ensures asks { All (IsAskOf E.KIND (E.seen engine.now).standing.clients) result.items }
-    ensures sound { IsEngine E.KIND (E.seen engine.now) }
+    ensures asks { All (IsAskOf (E.seen engine.now).standing.kind (E.seen engine.now).standing.clients) result.items }
+    ensures sound { IsEngine (E.seen engine.now).standing.kind (E.seen engine.now) }
 {
     assert!(rt; script.len() < 65536);
-    match parse_script(alloc, script.as_bytes(), E::KIND, engine.clients()) {
+    match parse_script(alloc, script.as_bytes(), engine.kind(), engine.clients()) {
         Ok(asks) => asks,
         Err(_) => panic!(rt; "the script is read"),
     }
