@@ -180,13 +180,20 @@ fn object_line_at(head: &Header, round: u64, place: u32) -> u32
 }
 
 impl<O: Object, P: Pmem> Engine for Comb<O, P> {
+    ghost use Rattle.std.specs.Prelude.{◌≡◌};
+    ghost use Rattle.pb_engine.specs.View.{IsEngine};
+
     ghost seen = { λ comb. comb };
 
     fn kind(&self) -> Kind {
         self.pair.header().kind
     }
 
-    fn clients(&self) -> u32 {
+    fn clients(&self) -> u32
+        ensures count { result ≡ self.now.standing.clients }
+        ensures sound { IsEngine self.now.standing.kind self.now }
+        ensures own { IsEngine O.KIND self.now }
+    {
         self.pair.header().clients
     }
 

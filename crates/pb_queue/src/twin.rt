@@ -187,13 +187,19 @@ impl<P: Pmem> TwinQueue<P> {
 }
 
 impl<P: Pmem> Engine for TwinQueue<P> {
+    ghost use Rattle.pb_engine.specs.View.{IsEngine};
+
     ghost seen = { λ queue. queue };
 
     fn kind(&self) -> Kind {
         self.pair.header().kind
     }
 
-    fn clients(&self) -> u32 {
+    fn clients(&self) -> u32
+        ensures count { result ≡ self.now.standing.clients }
+        ensures sound { IsEngine self.now.standing.kind self.now }
+        ensures own { IsEngine Queue self.now }
+    {
         self.pair.header().clients
     }
 
