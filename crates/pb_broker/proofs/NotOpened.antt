@@ -7,7 +7,7 @@ use Rattle.pb_layout.proofs.Checks.{named_before}
 use Rattle.pb_pair.specs.declared.why.Why.{Why}
 use Rattle.pb_pair.specs.declared.why.Why.TheVariants.{Memory, Device as DeviceWhy, Taken, NoRegion, Damaged}
 use Rattle.pb_pair.specs.Open.{IsOpenRefusal, IsRefusedAt}
-use Rattle.pb_engine.specs.Opening.{IsAdoptRefusal}
+use Rattle.pb_engines.specs.Unopened.{IsUnopened}
 use Rattle.pb_broker.specs.declared.stop.Stop.{Stop}
 use Rattle.pb_broker.specs.Comes.{IsNotOpened}
 use Rattle.pb_broker.specs.Serving.{StopsOn}
@@ -34,12 +34,13 @@ not_open old new Taken is = absurd is
 not_open old new NoRegion is = (is.1, is.0)
 not_open old new (Damaged line) is = (told_damage line old.now is.1, is.0)
 
-pub not_adopted : (old new : Device) (why : Why) → IsAdoptRefusal old new why → IsNotOpened old new (stop_of_device why)
-not_adopted old new Memory is = is
-not_adopted old new (DeviceWhy fault) is = (is.fails.rose, same_log old new is.fails)
-not_adopted old new Taken is = absurd is
-not_adopted old new NoRegion is = absurd is
-not_adopted old new (Damaged line) is = (is.1, is.0)
+-- no engine of any kind was opened
+pub not_opened : (old new : Device) (why : Why) → IsUnopened old new why → IsNotOpened old new (stop_of_device why)
+not_opened old new Memory is = is
+not_opened old new (DeviceWhy fault) is = (is.fails.rose, same_log old new is.fails)
+not_opened old new Taken is = absurd is
+not_opened old new NoRegion is = (is.1, is.0)
+not_opened old new (Damaged line) is = (is.1, is.0)
 
 pub run_refused : {R : Type 0} (Served : R → Type 0) (bytes : List ℕ) (before mid after : Device) (why : Why) (served : Result R Stop) → served ≡ Err (stop_of_device why) → after ≡ mid → IsOpenRefusal before mid why → MatchResult served Served (StopsOn bytes before after)
 run_refused {R} Served bytes before mid after why served is same refusal =

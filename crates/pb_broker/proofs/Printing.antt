@@ -13,7 +13,7 @@ use Rattle.pb_engine.specs.View.{EngineView}
 use Rattle.pb_events.specs.declared.event.Stepped.{Stepped}
 use Rattle.pb_layout.specs.declared.header.Header.{Header}
 use Rattle.pb_object.specs.Standing.{Standing}
-use Rattle.pb_region_report.specs.AnyEngine.{view_of}
+use Rattle.pb_engines.specs.AnyEngine.{view_of}
 use Rattle.pb_region_report.specs.ReportText.{report_text}
 use Rattle.pb_replay.specs.declared.played.Played.{Played}
 use Rattle.pb_replay.specs.AnswerText.{given, answers_text}

@@ -1,6 +1,7 @@
 //! Replaying a schedule.
 ghost use Rattle.std.specs.Prelude.{◌≤◌, ◌++◌, MatchResult};
-ghost use Rattle.pb_region_report.specs.AnyEngine.{view_of, ListsHeap};
+ghost use Rattle.pb_engines.specs.AnyEngine.{view_of};
+ghost use Rattle.pb_region_report.specs.Writing.{ListsHeap};
 ghost use Rattle.pb_region_report.specs.ReportText.{report_text};
 ghost use Rattle.pb_replay.specs.AnswerText.{answers_text};
 ghost use Rattle.pb_broker.specs.declared.status.Status.{Status};

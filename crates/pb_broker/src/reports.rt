@@ -1,7 +1,6 @@
 //! Printing what a region holds.
 ghost use Rattle.std.specs.Prelude.{◌≡◌};
-ghost use Rattle.pb_pair.specs.Open.{IsOpened};
-ghost use Rattle.pb_region_report.specs.AnyEngine.{view_of};
+ghost use Rattle.pb_engines.specs.AnyEngine.{view_of};
 ghost use Rattle.pb_broker.specs.Call.{IsSaid};
 ghost use Rattle.pb_broker.specs.Stops.{stop_of_device};
 ghost use Rattle.pb_broker.specs.Texts.{stop_text, stop_status};
@@ -14,9 +13,10 @@ use crate::program::Done;
 use crate::status::Status;
 use crate::stop::Stop;
 use pb_io::Sink;
-use pb_pair::{Pair, Refused};
+use pb_pair::Refused;
 use pb_pmem::Pmem;
-use pb_region_report::{AnyEngine, Unwritten, write_report};
+use pb_engines::AnyEngine;
+use pb_region_report::{Unwritten, write_report};
 use std::alloc::Global;
 
 /// Prints what the device's region holds. It writes nothing to the device.
@@ -26,19 +26,7 @@ pub fn report<K: Sink, P: Pmem>(alloc: Global, sink: &mut K, device: P) -> Done<
     ensures { let out = stream (K.bytes sink.old) (K.bytes sink.new) (K.fault_count sink.old) (K.fault_count sink.new) in
         IsReported (P.seen device) (P.seen result.device) out result.status }
 {
-    match Pair::open(alloc, device) {
-        Ok(pair) => report_opened(alloc, sink, pair),
-        Err(refused) => refuse(sink, refused),
-    }
-}
-
-/// Prints what a region that was opened holds.
-fn report_opened<K: Sink, P: Pmem>(alloc: Global, sink: &mut K, pair: Pair<P>) -> Done<P>
-    requires { IsOpened pair.device pair }
-    ensures { let out = stream (K.bytes sink.old) (K.bytes sink.new) (K.fault_count sink.old) (K.fault_count sink.new) in
-        IsReported pair.device (P.seen result.device) out result.status }
-{
-    match AnyEngine::adopt(alloc, pair) {
+    match AnyEngine::open(alloc, device) {
         Ok(engine) => Done {
             status: print_report(alloc, sink, &engine),
             device: engine.close(),

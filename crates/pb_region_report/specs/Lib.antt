@@ -1,2 +1,2 @@
-pub mod AnyEngine
 pub mod ReportText
+pub mod Writing

@@ -3,13 +3,13 @@
 //! A report is of the standing that an engine last knew for sure, whether it is sure now or not. No call changes the engine.
 #![tactic(auto)]
 
-mod any;
 mod clients;
 mod head;
 mod object_lines;
 mod report;
 mod unwritten;
+mod writing;
 
-pub use any::{AnyEngine, rising_items, write_prepared, write_report};
 pub use report::{write_heap, write_map, write_queue, write_stack};
 pub use unwritten::Unwritten;
+pub use writing::{rising_items, write_prepared, write_report};

@@ -10,7 +10,7 @@ use pb_object::{Kind, Object};
 use pb_pair::{Pair, Why};
 use pb_pmem::DeviceFault;
 use pb_queue::TwinQueue;
-use pb_region_report::AnyEngine;
+use pb_engines::AnyEngine;
 use pb_report::Outcome;
 use pb_run::run_script;
 use pb_script::parse_script;

@@ -10,7 +10,8 @@ use Rattle.pb_core.specs.Fresh.{IsFresh}
 use Rattle.pb_core.specs.Play.{Play}
 use Rattle.pb_core.specs.Possible.{IsPossible}
 use Rattle.pb_core.specs.World.{World}
-use Rattle.pb_region_report.specs.AnyEngine.{view_of, ListsHeap}
+use Rattle.pb_engines.specs.AnyEngine.{view_of}
+use Rattle.pb_region_report.specs.Writing.{ListsHeap}
 use Rattle.pb_script.specs.declared.event.Repeat.{Repeat}
 use Rattle.pb_script.specs.declared.event.TheConstants.{MOST_EVENTS}
 use Rattle.pb_script.specs.declared.script.ScriptFault.{ScriptFault}

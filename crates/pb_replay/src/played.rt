@@ -7,7 +7,8 @@ ghost use Rattle.pb_core.specs.World.{World as CoreWorld};
 ghost use Rattle.pb_io.specs.SinkBytes.{AppendsSome};
 ghost use Rattle.pb_layout.specs.Recovered.{Represents};
 ghost use Rattle.pb_play.specs.Worlds.{IsShaped, ShowsWorld};
-ghost use Rattle.pb_region_report.specs.AnyEngine.{view_of, ListsHeap};
+ghost use Rattle.pb_engines.specs.AnyEngine.{view_of};
+ghost use Rattle.pb_region_report.specs.Writing.{ListsHeap};
 ghost use Rattle.pb_region_report.specs.ReportText.{report_text};
 ghost use Rattle.pb_replay.specs.AnswerText.{answers_text};
 ghost use Rattle.pb_replay.specs.Replay.{IsReplay};
@@ -16,11 +17,12 @@ use crate::answers::AnswerLines;
 use crate::device::open_region;
 use crate::playing::Playing;
 use crate::survey::event_count;
+use pb_engines::AnyEngine;
 use pb_events::Stepped;
 use pb_image::Sound;
 use pb_io::{Sink, SinkFault};
 use pb_layout::Header;
-use pb_region_report::{AnyEngine, rising_items, write_prepared};
+use pb_region_report::{rising_items, write_prepared};
 use pb_report::write_lines;
 use pb_script::ScriptFault;
 use std::alloc::{AllocError, Global};
@@ -57,7 +59,9 @@ pub fn play_schedule(alloc: Global, head: &Header, bytes: &[u8]) -> Result<Playe
 fn left_by(alloc: Global, playing: Playing) -> Result<Played, AllocError>
     requires { IsShaped playing.world }
     ensures answers { IfOk result (λ played. played.answers ≡ playing.answers) }
-    ensures stands { (w : CoreWorld) → ShowsWorld playing.world w → IfOk result (λ played. Represents (contents w.tale.base w.tale.log) (view_of played.engine).standing) }
+    ensures stands { (w : CoreWorld)
+        → ShowsWorld playing.world w
+        → IfOk result (λ played. Represents (contents w.tale.base w.tale.log) (view_of played.engine).standing) }
     ensures rising { IfOk result (λ played. ListsHeap played.engine played.rising.items) }
 {
     let engine = open_region(alloc, &playing.world)?;
@@ -74,8 +78,10 @@ fn left_by(alloc: Global, playing: Playing) -> Result<Played, AllocError>
 /// After an error some of the first bytes of the text are written.
 pub fn write_played<K: Sink>(sink: &mut K, played: &Played) -> Result<(), SinkFault>
     requires { ListsHeap played.now.engine played.now.rising.items }
-    ensures ok { OnOk result (Appends (K.bytes sink.old) (K.bytes sink.new) (answers_text played.now.answers.items ++ report_text (view_of played.now.engine).standing)) }
-    ensures err { OnErr result (AppendsSome (K.bytes sink.old) (K.bytes sink.new) (answers_text played.now.answers.items ++ report_text (view_of played.now.engine).standing)) }
+    ensures ok { let text = answers_text played.now.answers.items ++ report_text (view_of played.now.engine).standing in
+        OnOk result (Appends (K.bytes sink.old) (K.bytes sink.new) text) }
+    ensures err { let text = answers_text played.now.answers.items ++ report_text (view_of played.now.engine).standing in
+        OnErr result (AppendsSome (K.bytes sink.old) (K.bytes sink.new) text) }
     ensures cause { HasCause (K.fault_count sink.old) (K.fault_count sink.new) result }
 {
     let answers = played.answers.as_slice();

@@ -1,5 +1,5 @@
 use Rattle.std.proofs.Common.{◌++◌}
-use Rattle.pb_region_report.specs.AnyEngine.{view_of}
+use Rattle.pb_engines.specs.AnyEngine.{view_of}
 use Rattle.pb_region_report.specs.ReportText.{report_text}
 use Rattle.pb_replay.specs.AnswerText.{answers_text}
 use Rattle.pb_broker.specs.declared.status.Status.TheVariants.{Done}

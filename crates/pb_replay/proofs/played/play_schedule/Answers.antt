@@ -1,5 +1,5 @@
 use Rattle.std.proofs.Common.{◌∙◌, refl, ap}
-use Rattle.pb_region_report.specs.AnyEngine.{view_of}
+use Rattle.pb_engines.specs.AnyEngine.{view_of}
 use Rattle.pb_replay.proofs.Playings.{not_replayed}
 use Rattle.pb_replay.proofs.played.play_schedule.Goals as goal
 

@@ -2,7 +2,7 @@ use Rattle.std.proofs.Common.{◌++◌, List, subst}
 use Rattle.std.specs.Prelude.{OnErr}
 use Rattle.pb_events.specs.declared.event.Stepped.{Stepped}
 use Rattle.pb_io.specs.SinkBytes.{AppendsSome}
-use Rattle.pb_region_report.specs.AnyEngine.{view_of}
+use Rattle.pb_engines.specs.AnyEngine.{view_of}
 use Rattle.pb_region_report.specs.ReportText.{report_text}
 use Rattle.pb_replay.specs.AnswerText.{answers_text}
 use Rattle.pb_replay.proofs.Writing.{err_of_first, err_of_second}

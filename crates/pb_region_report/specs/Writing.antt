@@ -1,4 +1,4 @@
--- An engine of any kind, and why its report wasn't written.
+-- Writing the report of an engine of any kind: what memory is taken for, and why it wasn't written.
 use Rattle.std.specs.Prelude.{◌≡◌, ℕ, List, Option, Result, Ok, Err}
 use Rattle.std.specs.Io.KnownBytes.{Keeps}
 use Rattle.pb_pmem.specs.Count.{Rose}
@@ -6,18 +6,10 @@ use Rattle.pb_io.specs.declared.sink.SinkFault.{SinkFault}
 use Rattle.pb_io.specs.SinkBytes.{AppendsSome}
 use Rattle.pb_object.specs.Object.{Rising}
 use Rattle.pb_object.specs.ObjectLines.{size_of}
-use Rattle.pb_engine.specs.View.{EngineView}
-use Rattle.pb_region_report.specs.declared.any.AnyEngine.{AnyEngine}
-use Rattle.pb_region_report.specs.declared.any.AnyEngine.TheVariants.{Map, Stack, Heap, Queue}
+use Rattle.pb_engines.specs.declared.any.AnyEngine.{AnyEngine}
+use Rattle.pb_engines.specs.declared.any.AnyEngine.TheVariants.{Map, Stack, Heap, Queue}
 use Rattle.pb_region_report.specs.declared.unwritten.Unwritten.{Unwritten}
 use Rattle.pb_region_report.specs.declared.unwritten.Unwritten.TheVariants.{Memory, Sink}
-
--- the engine, whichever kind it is of
-abbrev pub view_of : {P : Type 0} → AnyEngine P → EngineView
-view_of (Map comb) = comb
-view_of (Stack comb) = comb
-view_of (Heap comb) = comb
-view_of (Queue queue) = queue
 
 -- these are a heap's items in rising order; of other kinds nothing is said
 abbrev pub ListsHeap : {P : Type 0} → AnyEngine P → List ℕ → Type 0

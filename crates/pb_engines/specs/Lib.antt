@@ -1,0 +1,2 @@
+pub mod AnyEngine
+pub mod Unopened
