@@ -10,14 +10,14 @@ use Rattle.pb_object.specs.declared.request.Kept.{Kept as KeptRequest}
 use Rattle.pb_object.specs.declared.request.Reply.{Reply}
 use Rattle.pb_object.specs.declared.request.TheConstants.{KEPT_REQUESTS}
 use Rattle.pb_object.specs.History.{Entry, Round, History, kept_by, after_entry, after_entries, after_round, state_after, AreLegal, IsLegalEntry, IsLegal}
-use Rattle.pb_object.specs.KeptLists.{HasKeptLists, kept_number}
+use Rattle.pb_object.specs.KeptLists.{HasKeptLists, kept_number, kept_with}
 use Rattle.pb_object.proofs.KeptLists.{newest_first}
 use Rattle.pb_layout.specs.LogHistory.{LoggedRound, AreUnsealed, rounds_in}
 use Rattle.pb_layout_laws.proofs.Histories.{rounds_in-append}
 use Rattle.pb_object.specs.Standing.{Standing, keep, kept_list_of, newest}
 use Rattle.pb_report.specs.declared.outcome.Outcome.{Outcome}
 use Rattle.pb_report.specs.declared.outcome.Outcome.TheVariants.{New, Kept, Old, Gap, Changed, Doubt, Left}
-use Rattle.pb_report.specs.Outcomes.{AreLeft, AreLines, IsLine, HasEntry, Outcomes, decided_outcome, entry_of, kept_with, lines_of_client, outcome_by}
+use Rattle.pb_report.specs.Outcomes.{AreLeft, AreLines, IsLine, HasEntry, Outcomes, decided_outcome, entry_of, lines_of_client, outcome_by}
 use Rattle.pb_report.proofs.EntryLemmas.{IsFull, IsInHistory, full_after, full_after_all, in_history, last_of, last_other, last_rises_over, last_same, same_or_other, within}
 use Rattle.pb_broker.specs.Chain.{SaysApplied, StandsIn}
 use Rattle.pb_run.specs.Run.{AreNewRecorded}

@@ -20,7 +20,7 @@ use Rattle.pb_layout.specs.declared.header.Header.{Header}
 use Rattle.pb_layout.specs.Exits.{empty_for}
 use Rattle.pb_pair.specs.declared.why.Why.{Why}
 use Rattle.pb_pair.specs.declared.why.Why.TheVariants.{Memory as MemoryWhy, Device as DeviceWhy, Taken as TakenWhy, NoRegion as NoRegionWhy, Damaged as DamagedWhy}
-use Rattle.pb_engine.specs.Opening.{IsFresh, IsFreshRefusal}
+use Rattle.pb_engine.specs.Opening.{IsFreshEngine, IsFreshRefusal}
 use Rattle.pb_engine.specs.View.{EngineView}
 use Rattle.pb_report.specs.declared.outcome.Outcome.{Outcome}
 use Rattle.pb_report.specs.Outcomes.{is_tried}
@@ -119,7 +119,7 @@ drill_stops head before after (Damaged line) is = absurd is
 
 -- The whole drill
 
-serves_drill : (seed clients count : ℕ) (before : Device) {start now : EngineView} {asks : List Ask} {list : List Outcome} → asks ≡ drill_asks seed clients count → IsFresh (drill_head clients) before start → HasRun start asks now list → ServesDrill seed clients count before now.device asks list (version_sum now.standing.state)
+serves_drill : (seed clients count : ℕ) (before : Device) {start now : EngineView} {asks : List Ask} {list : List Outcome} → asks ≡ drill_asks seed clients count → IsFreshEngine (drill_head clients) before start → HasRun start asks now list → ServesDrill seed clients count before now.device asks list (version_sum now.standing.state)
 serves_drill seed clients count before script fresh run = record {
   script = script;
   made = record { none = fresh.no_region; run = run_made fresh run };

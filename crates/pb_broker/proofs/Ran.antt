@@ -22,7 +22,7 @@ use Rattle.pb_layout_laws.proofs.ToldCalls.{told_then_sealed, from_told}
 use Rattle.pb_pair.proofs.Told.{told_after}
 use Rattle.pb_engine.specs.Calls.{settled_rounds}
 use Rattle.pb_engine.specs.Good.{BeginsAt}
-use Rattle.pb_engine.specs.Opening.{IsFresh, IsAdopted}
+use Rattle.pb_engine.specs.Opening.{IsFreshEngine, IsAdopted}
 use Rattle.pb_engine.specs.View.{FailedRound, EngineView, IsHeld, settled_standing, DeviceRepresents, was_called}
 use Rattle.pb_engine.proofs.Coming.{at_start, still_stands}
 use Rattle.pb_engine.proofs.Joining.{fresh_begins, adopted_begins}
@@ -106,7 +106,7 @@ nothing_run start none = record {
     }
 
 -- a region was made, and no request was run on it
-pub made_alone : {head : Header} {before after : Device} {start : EngineView} → IsFresh head before start → after ≡ start.device → ServesNew head before after [] []
+pub made_alone : {head : Header} {before after : Device} {start : EngineView} → IsFreshEngine head before start → after ≡ start.device → ServesNew head before after [] []
 made_alone {start = start} fresh device = record { start = start; fresh = fresh; now = start; run = nothing_run start fresh.doubt; device = device }
 
 counted_from : (before : ℕ) {start now : EngineView} {asks : List Ask} {list : List Outcome} → start.device.faults ≡ before → HasRun start asks now list → AreCounted before now.device.faults list
@@ -172,13 +172,13 @@ held_after : {start now : EngineView} {asks : List Ask} {list : List Outcome} �
 held_after {start} {now} decided held run none =
     subst (λ (s : Standing). DeviceRepresents s now.device) run.come.standing ((run.come.quiet none).holds decided held).stands
 
-fresh_held : {head : Header} {before : Device} {start : EngineView} → IsFresh head before start → IsHeld start
+fresh_held : {head : Header} {before : Device} {start : EngineView} → IsFreshEngine head before start → IsHeld start
 fresh_held {head} {before} {start} fresh = record {
   stands = subst (λ (s : Standing). DeviceRepresents s start.device) (sym fresh.standing) fresh.holds;
   in_use = fresh.in_use;
 }
 
-logged_new : {head : Header} {before : Device} {start now : EngineView} {asks : List Ask} {list : List Outcome} → IsFresh head before start → (run : HasRun start asks now list) → (tale : Tale) → before.told ≡ Some tale → IsReadyWith (None ∷ []) tale → IsLogged run.rounds (empty_for head) (making_ops head) asks list tale now.device
+logged_new : {head : Header} {before : Device} {start now : EngineView} {asks : List Ask} {list : List Outcome} → IsFreshEngine head before start → (run : HasRun start asks now list) → (tale : Tale) → before.told ≡ Some tale → IsReadyWith (None ∷ []) tale → IsLogged run.rounds (empty_for head) (making_ops head) asks list tale now.device
 logged_new {head} {before} {start} {now} {asks} {list} fresh run tale told ready =
     let made = fresh.covers tale told ready in
     let first = making_ops head in
@@ -187,7 +187,7 @@ logged_new {head} {before} {start} {now} {asks} {list} fresh run tale told ready
     (subst (λ (s : Standing). IsLogged run.rounds s [] asks list (with_ops made.ops tale) now.device) fresh.standing
     (since_sure (with_ops made.ops tale) fresh.sure fresh.doubt run (fresh_begins head before start tale fresh told ready)))
 
-pub run_made : {head : Header} {before : Device} {start now : EngineView} {asks : List Ask} {list : List Outcome} → IsFresh head before start → HasRun start asks now list → IsRun (empty_for head) (making_ops head) (IsReadyWith (None ∷ [])) asks list before now.device
+pub run_made : {head : Header} {before : Device} {start now : EngineView} {asks : List Ask} {list : List Outcome} → IsFreshEngine head before start → HasRun start asks now list → IsRun (empty_for head) (making_ops head) (IsReadyWith (None ∷ [])) asks list before now.device
 run_made {head} {before} {start} {now} {asks} {list} fresh run = record {
   history = run.rounds;
   explained = subst (λ (s : Standing). Explains run.rounds s asks list) fresh.standing (rounds_explain (sure_since fresh.sure fresh.doubt run));
@@ -198,7 +198,7 @@ run_made {head} {before} {start} {now} {asks} {list} fresh run = record {
 }
 
 -- its history is that of the rounds
-pub run_made_history : {head : Header} {before : Device} {start now : EngineView} {asks : List Ask} {list : List Outcome} (fresh : IsFresh head before start) (run : HasRun start asks now list) → (run_made fresh run).history ≡ run.rounds
+pub run_made_history : {head : Header} {before : Device} {start now : EngineView} {asks : List Ask} {list : List Outcome} (fresh : IsFreshEngine head before start) (run : HasRun start asks now list) → (run_made fresh run).history ≡ run.rounds
 unfolding run_made
 run_made_history fresh run = refl
 

@@ -14,7 +14,9 @@ use Rattle.pb_object.specs.Standing.{Standing, keep, kept_list_of, newest}
 use Rattle.pb_layout.specs.LogHistory.{LoggedRound, AreUnsealed, rounds_in}
 use Rattle.pb_report.specs.declared.outcome.Outcome.{Outcome}
 use Rattle.pb_report.specs.declared.outcome.Outcome.TheVariants.{New, Kept, Old, Gap, Changed, Doubt, Left}
-use Rattle.pb_report.specs.Outcomes.{AreLeft, AreLines, IsLine, HasEntry, Outcomes, decided_outcome, entry_of, is_same_op, kept_with, lines_of_client, outcome_by}
+use Rattle.pb_report.specs.Outcomes.{AreLeft, AreLines, IsLine, HasEntry, Outcomes, decided_outcome, entry_of, lines_of_client, outcome_by}
+use Rattle.pb_object.specs.KeptLists.{kept_with}
+use Rattle.pb_object.specs.Request.{is_same_op}
 use Rattle.pb_report.proofs.EntryLemmas.{IsFull, full_after, full_after_all, same_or_other}
 use Rattle.pb_broker.specs.Chain.{Point, Called, Chain, Steps, IsBehind, HasRequests, FollowsFrom, HasPrinted, PrintsReply, IsReplied, rounds_told}
 use Rattle.pb_broker.specs.Ending.{Ending, Stopped, Served, Drilled, Reported, Replayed}

@@ -12,7 +12,7 @@ use Rattle.pb_layout.specs.Damage.{HasRegion}
 use Rattle.pb_pair.specs.declared.why.Why.TheVariants.{Device as DeviceWhy}
 use Rattle.pb_engine.specs.Covers.{SettleCovers, FailedSettleCovers}
 use Rattle.pb_engine.specs.Outcomes.{HasSettled, HasFailedToSettle}
-use Rattle.pb_engine.specs.Opening.{IsFresh, IsFreshRefusal, IsAdopted}
+use Rattle.pb_engine.specs.Opening.{IsFreshEngine, IsFreshRefusal, IsAdopted}
 use Rattle.pb_engine.specs.View.{EngineView}
 use Rattle.pb_events.specs.declared.event.Stepped.{Stepped}
 use Rattle.pb_replay.specs.declared.played.Played.{Played}
@@ -73,7 +73,7 @@ StopsPreparing kind clients read stop = StopsReadingFew read stop
 -- an engine was made on the device, and the requests were run on it
 pub record ServesNew (head : Header) (before after : Device) (asks : List Ask) (list : List Outcome) : Type 0 where
   pub start : EngineView
-  pub fresh : IsFresh head before start
+  pub fresh : IsFreshEngine head before start
   pub now : EngineView
   pub run : HasRun start asks now list
   pub device : after ≡ now.device
@@ -98,7 +98,7 @@ pub record DrillsOn (start : EngineView) (after : Device) (asks : List Ask) (out
 -- .. which was made on the device; or it couldn't be made
 abbrev pub DrillsNew : Header → Device → Device → List Ask → Stream → Status → Type 0
 DrillsNew head before after asks out status =
-    ((start : EngineView) × IsFresh head before start × DrillsOn start after asks out status)
+    ((start : EngineView) × IsFreshEngine head before start × DrillsOn start after asks out status)
     ⊎ ((stop : Stop) × IsNotMade head before after stop × IsSaid out (stop_text stop) (stop_status stop) status)
 
 -- A region that is there

@@ -19,7 +19,7 @@ use Rattle.pb_layout.specs.Header.{slot_count}
 use Rattle.pb_layout_laws.proofs.FewRounds.{records_few}
 use Rattle.pb_pair.specs.Safe.{StoreCovers, FailedStoreCovers}
 use Rattle.pb_pair.specs.Store.{IsStored, HasFailedStore}
-use Rattle.pb_pair.specs.View.{PairView, round_of, lines_of}
+use Rattle.pb_pair.specs.View.{PairView, round_of_side, lines_of}
 use Rattle.pb_engine.specs.Asks.{MayBeServed, IsNextAsk, side_asked, answered_by, answered_from, state_from, asked_round}
 use Rattle.pb_engine.specs.Covers.{RoundCovers, FailedRoundCovers}
 use Rattle.pb_engine.specs.Next.{IsBegun, PutsEntries, KeepsBefore}
@@ -34,7 +34,7 @@ use Rattle.pb_comb.proofs.Settling.{size_from}
 
 -- the record that a round wrote: the lines in use with the next number, then with the entries, and then with the object's lines
 pub record IsWritten (kind : Kind) (pair : PairView) (ahead after : State) (asks : List Ask) (round : ℕ) (before again begun served lines : List Line) : Type 0 where
-  pub round_is : round ≡ round_of pair 0
+  pub round_is : round ≡ round_of_side pair 0
   pub before_is : before ≡ lines_of pair 0
   pub again_is : again ≡ lines_of pair 0
   pub begins : IsBegun before (round + 1) begun
@@ -61,7 +61,7 @@ round_from kind pair state ahead after next asked asks round before again begun 
   records = is.records;
   may = may;
   next = next_of pair state asks begun served lines is.sound (λ queue. is.one_side (sym is.kind_is ∙ queue)) may (record {
-    begins = subst (λ (ls : List Line). IsBegun ls (round_of pair 0 + 1) begun) written.before_is (subst (λ (n : ℕ). IsBegun before (n + 1) begun) written.round_is written.begins);
+    begins = subst (λ (ls : List Line). IsBegun ls (round_of_side pair 0 + 1) begun) written.before_is (subst (λ (n : ℕ). IsBegun before (n + 1) begun) written.round_is written.begins);
     serves = subst (λ (ls : List Line). PutsEntries ls (answered_from state asks) begun served) written.again_is (subst (λ (st : State). PutsEntries again (answered_from st asks) begun served) same written.serves);
     keeps = subst (λ (n : ℕ). KeepsBefore n served lines) first keeps;
     object = subst (LinesRepresent (drop (1 + slot_count pair.head) lines)) (written.moves ∙ ap (λ (st : State). state_from st asks) same) (subst (λ (n : ℕ). LinesRepresent (drop n lines) after) first object);
@@ -125,7 +125,7 @@ round_by {others} kind pair state ahead after next asked asks round before again
         (subst (λ (ls : List Line). LinesRepresent ls state) (parts_of_one pair.head.kind pair.head (lines_of pair) not_queue) is.records.state))
 
 -- the next round number fits a word
-pub number_fits : (kind : Kind) (pair : PairView) (state ahead : State) (next : List Line) (asked : List Ask) → IsComb kind pair state ahead next asked → round_of pair 0 + 1 < 18446744073709551616
+pub number_fits : (kind : Kind) (pair : PairView) (state ahead : State) (next : List Line) (asked : List Ask) → IsComb kind pair state ahead next asked → round_of_side pair 0 + 1 < 18446744073709551616
 number_fits kind pair state ahead next asked is =
     omega (arith, records_few (lines_of pair) (standing_of pair state) is.records 0)
 

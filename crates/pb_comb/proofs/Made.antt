@@ -18,7 +18,7 @@ use Rattle.pb_pair.specs.declared.known.Known.TheVariants.{Failed}
 use Rattle.pb_pair.specs.Safe.{StoreCovers, FailedStoreCovers}
 use Rattle.pb_pair.specs.Settle.{was_called}
 use Rattle.pb_pair.specs.Store.{stored_ops, staged_ops, IsStored, IsFailedStore, HasFailedStore, doubt_of}
-use Rattle.pb_pair.specs.View.{SideView, PairView, side_of, round_of, lines_of, forgotten, HasFailed}
+use Rattle.pb_pair.specs.View.{SideView, PairView, view_of_side, round_of_side, lines_of, forgotten, HasFailed}
 use Rattle.pb_pair.proofs.Safe.{stored_represents}
 use Rattle.pb_pair.proofs.Told.{if_some_mapped}
 use Rattle.pb_engine.specs.Asks.{side_asked, state_from, asked_round}
@@ -68,7 +68,7 @@ next_is kind pair state asks lines is = record {
   next = is.next;
 }
 
-engine_ops : (kind : Kind) (pair : PairView) (state : State) (asks : List Ask) (lines : List Line) → IsRound kind pair state asks lines → round_ops (comb_view pair state []) (round_for pair state asks) lines ≡ stored_ops pair.head 0 (side_of pair 0) lines
+engine_ops : (kind : Kind) (pair : PairView) (state : State) (asks : List Ask) (lines : List Line) → IsRound kind pair state asks lines → round_ops (comb_view pair state []) (round_for pair state asks) lines ≡ stored_ops pair.head 0 (view_of_side pair 0) lines
 engine_ops kind pair state asks lines is =
     (λ i. ops_of kind pair state [] asks lines is i ++ commits_of kind pair state [] asks lines is i)
 
@@ -100,13 +100,13 @@ made kind old new state asks lines is stored = record {
     moved = standing_moved kind old new state asks lines is (stored_moves old new lines stored)
 
     ops : List LogOp
-    ops = stored_ops old.head 0 (side_of old 0) lines
+    ops = stored_ops old.head 0 (view_of_side old 0) lines
 
     -- the device's lines, whose record in use is the pair's
     IsHeld : List Line → Type 0
-    IsHeld image = (record_in_use image old.head 0 (round_of old 0) ≡ lines_of old 0) × (old.device.now ≡ Some image)
+    IsHeld image = (record_in_use image old.head 0 (round_of_side old 0) ≡ lines_of old 0) × (old.device.now ≡ Some image)
 
-    held : (now : Option (List Line)) → old.device.now ≡ now → IfSome now (λ image. record_in_use image old.head 0 (round_of old 0) ≡ lines_of old 0) → IfSome now (λ ls. IsHeld ls)
+    held : (now : Option (List Line)) → old.device.now ≡ now → IfSome now (λ image. record_in_use image old.head 0 (round_of_side old 0) ≡ lines_of old 0) → IfSome now (λ ls. IsHeld ls)
     held None told used = tt
     held (Some image) told used = (used, told)
 
@@ -160,7 +160,7 @@ records_stay old new state head first second are =
     subst (AreRecords (lines_of new)) (sym (standing_stays old new state head first)) (subst (λ (records : ℕ → List Line). AreRecords records (standing_of old state)) (sym (lines_stay old new first second)) are)
 
 -- the round stays in doubt
-in_doubt : (kind : Kind) (old new : PairView) (state : State) (asks : List Ask) (lines : List Line) (called : Bool) (fault : DeviceFault) → IsRound kind old state asks lines → HasFailed (IsFailedStore old.head 0 (side_of old 0) lines called) (doubt_of 0 lines called) old fault new → HasDoubt new (standing_of new state) asks
+in_doubt : (kind : Kind) (old new : PairView) (state : State) (asks : List Ask) (lines : List Line) (called : Bool) (fault : DeviceFault) → IsRound kind old state asks lines → HasFailed (IsFailedStore old.head 0 (view_of_side old 0) lines called) (doubt_of 0 lines called) old fault new → HasDoubt new (standing_of new state) asks
 in_doubt kind old new state asks lines called fault is failed =
     subst (λ (s : Standing). HasDoubt new s asks) (sym (standing_stays old new state failed.head failed.first)) (record {
       failed = failed.known;
@@ -211,11 +211,11 @@ failed_to_make kind old new state asks lines fault is failed = record {
     same : standing_of new state ≡ standing_of old state
     same = standing_stays old new state failed.failed.head failed.failed.first
 
-    cut : (called : Bool) (ops : List LogOp) → IsFailedStore old.head 0 (side_of old 0) lines called ops → IsFailedRoundOps (comb_view old state []) (round_for old state asks) lines called ops
+    cut : (called : Bool) (ops : List LogOp) → IsFailedStore old.head 0 (view_of_side old 0) lines called ops → IsFailedRoundOps (comb_view old state []) (round_for old state asks) lines called ops
     cut false ops was = subst (λ (all : List LogOp). IsFailedPrefix all ops) (sym (ops_of kind old state [] asks lines is)) was
     cut true ops was =
         subst (λ (front : List LogOp). IsFailedPrefixAfter front (committed_ops (comb_view old state []) (round_for old state asks)) ops) (sym (ops_of kind old state [] asks lines is))
-        (subst (λ (all : List LogOp). IsFailedPrefixAfter (staged_ops old.head 0 (side_of old 0) lines) all ops) (sym (commits_of kind old state [] asks lines is)) was)
+        (subst (λ (all : List LogOp). IsFailedPrefixAfter (staged_ops old.head 0 (view_of_side old 0) lines) all ops) (sym (commits_of kind old state [] asks lines is)) was)
 
 -- whether the index word was called
 called_is : (s : Standing) (asks : List Ask) (pair : PairView) → asks ≢ [] → engine_called (engine_doubt s asks (was_called pair.doubt)) ≡ was_called pair.doubt

@@ -31,10 +31,10 @@ use Rattle.pb_pair.specs.declared.known.Known.TheVariants.{Sure}
 use Rattle.pb_pair.specs.Format.{AreFirst, IsFormatted, IsFormatRefusal}
 use Rattle.pb_pair.specs.Open.{IsOpened, IsReadFrom}
 use Rattle.pb_pair.specs.Safe.{FormatCovers, FailedFormatCovers}
-use Rattle.pb_pair.specs.View.{SideView, PairView, IsPair, round_of, lines_of}
+use Rattle.pb_pair.specs.View.{SideView, PairView, IsPair, round_of_side, lines_of}
 use Rattle.pb_pair.proofs.Told.{if_some_mapped}
 use Rattle.pb_engine.specs.Next.{KeepsBefore}
-use Rattle.pb_engine.specs.Opening.{IsFresh, IsAdopted, IsFreshRefusal}
+use Rattle.pb_engine.specs.Opening.{IsFreshEngine, IsAdopted, IsFreshRefusal}
 use Rattle.pb_engine.specs.View.{AreInUse}
 use Rattle.pb_engine.proofs.InUse.{written_in_use, opened_in_use}
 use Rattle.pb_engine.proofs.Served.{state_from-none}
@@ -175,7 +175,7 @@ pub fresh_standing : (head : Header) (pair : PairView) (state : State) (zeros li
 fresh_standing head pair state zeros lines old is formatted =
     λ i. record { kind = (formatted.head i).kind; clients = (formatted.head i).clients; size = (formatted.head i).size; rounds = rounds i; state = is.fresh i; kept = kept i }
   where
-    rounds : round_of pair 0 ∷ [] ≡ replicate (side_count head.kind) 0
+    rounds : round_of_side pair 0 ∷ [] ≡ replicate (side_count head.kind) 0
     rounds = ap (λ (part : SideView). part.round ∷ []) formatted.first_side ∙ ap (λ (n : ℕ). replicate n 0) (sym (one_side head.kind is.not_queue))
 
     kept : listed pair.head.clients (kept_in_slots (lines_of pair 0)) ≡ replicate {A = List Kept} head.clients []
@@ -188,7 +188,7 @@ fresh_standing head pair state zeros lines old is formatted =
         ∙ (ap (λ (part : SideView). kept_in_slots part.lines client) formatted.first_side
         ∙ (no_kept head lines client (empty_records head state zeros lines is).first_record (omega (arith, below, ap (λ (h : Header). h.clients) formatted.head)) ∙ sym (get_or-replicate {A = List Kept} head.clients client [] [] (omega (arith, below, ap (λ (h : Header). h.clients) formatted.head))))))
 
-pub fresh_is : (head : Header) (pair : PairView) (state : State) (zeros lines : List Line) (old : Device) → AreFirstLines head state zeros lines → IsFormatted head lines [] old pair → FormatCovers head lines [] old pair.device → IsWhole old → IsFresh head old (comb_view pair state [])
+pub fresh_is : (head : Header) (pair : PairView) (state : State) (zeros lines : List Line) (old : Device) → AreFirstLines head state zeros lines → IsFormatted head lines [] old pair → FormatCovers head lines [] old pair.device → IsWhole old → IsFreshEngine head old (comb_view pair state [])
 fresh_is head pair state zeros lines old is formatted safely whole = record {
   standing = fresh_standing head pair state zeros lines old is formatted;
   doubt = refl;
@@ -283,7 +283,7 @@ adopted_stands pair state image not_queue whole read are = from_parts image s wh
     one : side_count pair.head.kind ≡ 1
     one = one_side pair.head.kind not_queue
 
-    round : round_of pair 0 ≡ round_in image 0
+    round : round_of_side pair 0 ≡ round_in image 0
     round = read.rounds 0 (omega (arith, one))
 
     in_image : AreRecords (record_of_side image s) s
@@ -307,16 +307,16 @@ object_place Heap image place not_queue = refl
 object_place Queue image place not_queue = absurd (not_queue refl)
 
 -- the line of the region where the object's first refused line stands
-pub damaged_at : (pair : PairView) (image : List Line) (place : ℕ) → pair.head.kind ≢ Queue → IsReadFrom pair image → IsFirstRefused pair.head.kind pair.head.size (drop (1 + slot_count pair.head) (lines_of pair 0)) place → IsDamagedAt image (record_place pair.head 0 (round_of pair 0 % 2) + 1 + slot_count pair.head + place)
+pub damaged_at : (pair : PairView) (image : List Line) (place : ℕ) → pair.head.kind ≢ Queue → IsReadFrom pair image → IsFirstRefused pair.head.kind pair.head.size (drop (1 + slot_count pair.head) (lines_of pair 0)) place → IsDamagedAt image (record_place pair.head 0 (round_of_side pair 0 % 2) + 1 + slot_count pair.head + place)
 damaged_at pair image place not_queue read refused = record {
   region = ap (λ (l : Line). word l 0) (named_of_header (line_at image 0) read.passes.0).1;
   first = named_after (opening_checks image) (state_checks image) line read.passes (inl (place, at, refused_there));
 }
   where
     line : ℕ
-    line = record_place pair.head 0 (round_of pair 0 % 2) + 1 + slot_count pair.head + place
+    line = record_place pair.head 0 (round_of_side pair 0 % 2) + 1 + slot_count pair.head + place
 
-    round : round_of pair 0 ≡ round_in image 0
+    round : round_of_side pair 0 ≡ round_in image 0
     round = read.rounds 0 (omega (arith, one_side pair.head.kind not_queue))
 
     at : line ≡ object_place_by (header_in image).kind image place
@@ -349,10 +349,10 @@ adopted_is pair state not_queue opened are = record {
     in_use zero below = opened_in_use pair 0 opened below
     in_use (suc other) below = absurd (omega (arith, below, one_side pair.head.kind not_queue))
 
-pub damaged_told : (pair : PairView) (place : ℕ) → pair.head.kind ≢ Queue → IsOpened pair.device pair → IsFirstRefused pair.head.kind pair.head.size (drop (1 + slot_count pair.head) (lines_of pair 0)) place → IfSome pair.device.now (λ image. IsDamagedAt image (record_place pair.head 0 (round_of pair 0 % 2) + 1 + slot_count pair.head + place))
+pub damaged_told : (pair : PairView) (place : ℕ) → pair.head.kind ≢ Queue → IsOpened pair.device pair → IsFirstRefused pair.head.kind pair.head.size (drop (1 + slot_count pair.head) (lines_of pair 0)) place → IfSome pair.device.now (λ image. IsDamagedAt image (record_place pair.head 0 (round_of_side pair 0 % 2) + 1 + slot_count pair.head + place))
 damaged_told pair place not_queue opened refused = go pair.device.now opened.read
   where
-    go : (now : Option (List Line)) → IfSome now (IsReadFrom pair) → IfSome now (λ image. IsDamagedAt image (record_place pair.head 0 (round_of pair 0 % 2) + 1 + slot_count pair.head + place))
+    go : (now : Option (List Line)) → IfSome now (IsReadFrom pair) → IfSome now (λ image. IsDamagedAt image (record_place pair.head 0 (round_of_side pair 0 % 2) + 1 + slot_count pair.head + place))
     go None read = tt
     go (Some image) read = damaged_at pair image place not_queue read refused
 
@@ -403,8 +403,8 @@ refused_within kind pair fresh head lines part place takes refused =
     let same : object_line_count kind (size_of fresh) ≡ object_line_count head.kind head.size = (λ i. object_line_count (sym takes.kind_is i) (fresh_size kind pair fresh head lines part takes i)) ∙ ap (λ (h : Header). object_line_count h.kind h.size) (sym takes.head_is) in
     omega (arith, refused.within, taken_length kind pair fresh head lines part takes, same)
 
-pub refused_told : (kind : Kind) (pair : PairView) (fresh : State) (head : Header) (lines part : List Line) (place round line : ℕ) → TakesLines kind pair fresh head lines part → IsOpened pair.device pair → IsFirstRefused kind (size_of fresh) part place → round ≡ round_of pair 0 → line ≡ record_place head 0 (round % 2) + 1 + slot_count head + place → IfSome pair.device.now (λ image. IsDamagedAt image line)
+pub refused_told : (kind : Kind) (pair : PairView) (fresh : State) (head : Header) (lines part : List Line) (place round line : ℕ) → TakesLines kind pair fresh head lines part → IsOpened pair.device pair → IsFirstRefused kind (size_of fresh) part place → round ≡ round_of_side pair 0 → line ≡ record_place head 0 (round % 2) + 1 + slot_count head + place → IfSome pair.device.now (λ image. IsDamagedAt image line)
 refused_told kind pair fresh head lines part place round line takes opened refused rounds at =
-    let here : line ≡ record_place pair.head 0 (round_of pair 0 % 2) + 1 + slot_count pair.head + place = at ∙ (λ i. record_place (takes.head_is i) 0 (rounds i % 2) + 1 + slot_count (takes.head_is i) + place) in
+    let here : line ≡ record_place pair.head 0 (round_of_side pair 0 % 2) + 1 + slot_count pair.head + place = at ∙ (λ i. record_place (takes.head_is i) 0 (rounds i % 2) + 1 + slot_count (takes.head_is i) + place) in
     subst (λ (n : ℕ). IfSome pair.device.now (λ image. IsDamagedAt image n)) (sym here)
     (damaged_told pair place (λ queue. takes.not_queue (sym takes.kind_is ∙ queue)) opened (refused_in kind pair fresh head lines part place takes refused))

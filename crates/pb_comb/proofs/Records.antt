@@ -16,13 +16,13 @@ use Rattle.pb_object.specs.Request.{IsOperation}
 use Rattle.pb_object.specs.Standing.{Standing, side_count, rounds_of, kept_list_of}
 use Rattle.pb_layout.specs.declared.header.Header.{Header}
 use Rattle.pb_layout.specs.Header.{slot_count}
-use Rattle.pb_layout.specs.NextRecord.{HasEntry, IsNextOf, next_position, AddedCellsRepresent, AreBacked}
+use Rattle.pb_layout.specs.NextRecord.{HasEntryInFront, IsNextOf, next_position, AddedCellsRepresent, AreBacked}
 use Rattle.pb_layout.specs.Record.{count_line_of, slot_line_at, kept_in_slots}
 use Rattle.pb_layout.specs.Represents.{header_for, object_part, object_parts, object_parts_by, kept_list_by, with_record}
 use Rattle.pb_layout.proofs.OneRecovery.{get_or-listed}
 use Rattle.pb_layout_laws.proofs.Rounds.{operation_side}
 use Rattle.pb_pair.specs.Safe.{IsPairOf}
-use Rattle.pb_pair.specs.View.{SideView, PairView, IsPair, round_of, lines_of}
+use Rattle.pb_pair.specs.View.{SideView, PairView, IsPair, round_of_side, lines_of}
 use Rattle.pb_engine.specs.Asks.{MayBeServed, IsNextAsk, side_asked, answered_from, state_from, asked_round}
 use Rattle.pb_engine.specs.Next.{IsBegun, PutsEntries, KeepsBefore}
 use Rattle.pb_engine.specs.Operations.{cell_ops}
@@ -75,13 +75,13 @@ no_cell_ops head from (Waits size queue) not_queue = absurd (not_queue refl)
 
 -- The pair of a standing
 
-second_round : (pair : PairView) → IsPair pair → pair.head.kind ≢ Queue → round_of pair 1 ≡ 0
+second_round : (pair : PairView) → IsPair pair → pair.head.kind ≢ Queue → round_of_side pair 1 ≡ 0
 second_round pair sound not_queue = ap (λ (part : SideView). part.round) (sound.one_side (one_side pair.head.kind not_queue))
 
 pub pair_of : (pair : PairView) (state : State) → IsPair pair → pair.head.kind ≢ Queue → IsPairOf pair (standing_of pair state)
 pair_of pair state sound not_queue = record { head = refl; rounds = rounds }
   where
-    rounds : (side : ℕ) → side < 2 → round_of pair side ≡ rounds_of (standing_of pair state) side
+    rounds : (side : ℕ) → side < 2 → round_of_side pair side ≡ rounds_of (standing_of pair state) side
     rounds zero below = refl
     rounds (suc zero) below = second_round pair sound not_queue
     rounds (suc (suc side)) below = absurd (omega arith)
@@ -98,7 +98,7 @@ round_for pair state asks = asked_round (standing_of pair state) asks
 
 -- the lines that a round wrote: the ones in use with the next number, with the entries, and then the object's
 pub record AreNextLines (pair : PairView) (state : State) (asks : List Ask) (begun served lines : List Line) : Type 0 where
-  pub begins : IsBegun (lines_of pair 0) (round_of pair 0 + 1) begun
+  pub begins : IsBegun (lines_of pair 0) (round_of_side pair 0 + 1) begun
   pub serves : PutsEntries (lines_of pair 0) (answered_from state asks) begun served
   pub keeps : KeepsBefore (1 + slot_count pair.head) served lines
   pub object : LinesRepresent (drop (1 + slot_count pair.head) lines) (state_from state asks)
@@ -111,7 +111,7 @@ next_of pair state asks begun served lines sound not_queue may are = record {
   legal = legal;
   long = are.keeps.long ∙ (are.serves.long ∙ (are.begins.long ∙ (sound.sides 0 (omega (arith, one_side pair.head.kind not_queue))).long));
   carries = are.keeps.same 0 (omega arith) ∙ (are.serves.first ∙ (are.begins.carries ∙ ap (λ (n : ℕ). count_line_of (n + 1)) (sym rounds)));
-  entries = subst (λ (ls : List Line). All (HasEntry ls lines) entries) (sym (ap (lines_of pair) side)) (each entries are.serves.each inside_all);
+  entries = subst (λ (ls : List Line). All (HasEntryInFront ls lines) entries) (sym (ap (lines_of pair) side)) (each entries are.serves.each inside_all);
   others = λ client slot inside below others.
       stays client slot inside below ∙ (are.serves.others client slot below others ∙ (are.begins.others (1 + (KEPT_REQUESTS * client + slot)) (omega arith) ∙ ap (λ (n : ℕ). slot_line_at (lines_of pair n) client slot) (sym side)));
   state = subst (λ (ls : List Line). LinesRepresent ls (after_round s round).state) (sym parts) (subst (LinesRepresent (drop (1 + slot_count pair.head) lines)) (sym (state_after_entries s asks)) are.object);
@@ -132,7 +132,7 @@ next_of pair state asks begun served lines sound not_queue may are = record {
     side : side_asked asks ≡ 0
     side = asked_side s asks not_queue may
 
-    rounds : rounds_of s (side_asked asks) ≡ round_of pair 0
+    rounds : rounds_of s (side_asked asks) ≡ round_of_side pair 0
     rounds = ap (rounds_of s) side
 
     parts : object_parts (header_for s) (with_record (lines_of pair) (side_asked asks) lines) ≡ drop (1 + slot_count pair.head) lines
@@ -151,14 +151,14 @@ next_of pair state asks begun served lines sound not_queue may are = record {
         within t at [] same legal = All-nil Inside
         within t at (entry ∷ es) same legal = All-cons Inside entry es (omega (arith, legal.0.client, same)) (within (Rattle.pb_object.specs.History.after_entry t entry) at es same legal.1)
 
-    each : (es : List Entry) → All (HasEntry (lines_of pair 0) served) es → All Inside es → All (HasEntry (lines_of pair 0) lines) es
-    each [] all within = All-nil (HasEntry (lines_of pair 0) lines)
+    each : (es : List Entry) → All (HasEntryInFront (lines_of pair 0) served) es → All Inside es → All (HasEntryInFront (lines_of pair 0) lines) es
+    each [] all within = All-nil (HasEntryInFront (lines_of pair 0) lines)
     each (entry ∷ es) all within =
-        let own = All-head (HasEntry (lines_of pair 0) served) entry es all in
+        let own = All-head (HasEntryInFront (lines_of pair 0) served) entry es all in
         let inside = All-head Inside entry es within in
-        All-cons (HasEntry (lines_of pair 0) lines) entry es
+        All-cons (HasEntryInFront (lines_of pair 0) lines) entry es
         (record {
           newest = stays entry.client 0 inside (omega arith) ∙ own.newest;
           shifted = λ slot below. stays entry.client (suc slot) inside below ∙ own.shifted slot below;
         })
-        (each es (All-tail (HasEntry (lines_of pair 0) served) entry es all) (All-tail Inside entry es within))
+        (each es (All-tail (HasEntryInFront (lines_of pair 0) served) entry es all) (All-tail Inside entry es within))

@@ -15,7 +15,7 @@ use Rattle.pb_object.specs.ObjectLines.{LinesRepresent}
 use Rattle.pb_object.specs.Standing.{Standing, rounds_of}
 use Rattle.pb_layout.specs.declared.header.Header.{Header}
 use Rattle.pb_layout.specs.Header.{record_length}
-use Rattle.pb_layout.specs.NextRecord.{HasEntry, IsNextOf, IsNextRecord, next_position, HasCells}
+use Rattle.pb_layout.specs.NextRecord.{HasEntryInFront, IsNextOf, IsNextRecord, next_position, HasCells}
 use Rattle.pb_layout.specs.Record.{slot_line_at, kept_in_slots, IsRecord}
 use Rattle.pb_layout.specs.Recovered.{listed}
 use Rattle.pb_layout.specs.RegionOps.{stage_over, spare_place, commit_ops}
@@ -27,7 +27,7 @@ use Rattle.pb_layout_laws.proofs.NextRecord.{next_own, next_records}
 use Rattle.pb_layout_laws.proofs.Rounds.{next_header, next_round_list, after_entries-kind_of}
 use Rattle.pb_pair.specs.Safe.{IsStoreOf}
 use Rattle.pb_pair.specs.Store.{staged_ops, IsNext}
-use Rattle.pb_pair.specs.View.{PairView, IsPair, side_of, round_of, lines_of}
+use Rattle.pb_pair.specs.View.{PairView, IsPair, view_of_side, round_of_side, lines_of}
 use Rattle.pb_engine.specs.Asks.{MayBeServed, IsNextAsk, side_asked, state_from}
 use Rattle.pb_engine.specs.Operations.{cell_ops, prepared_ops, committed_ops}
 use Rattle.pb_engine.specs.View.{known_of}
@@ -80,7 +80,7 @@ next_along f g s round lines not_queue side same next = record {
   legal = next.legal;
   long = next.long;
   carries = next.carries;
-  entries = subst (λ (ls : List Line). All (HasEntry ls lines) round.entries) used next.entries;
+  entries = subst (λ (ls : List Line). All (HasEntryInFront ls lines) round.entries) used next.entries;
   others = λ client slot inside below others. next.others client slot inside below others ∙ ap (λ (ls : List Line). slot_line_at ls client slot) used;
   state = subst (λ (ls : List Line). LinesRepresent ls (after_round s round).state) parts next.state;
 }
@@ -94,7 +94,7 @@ next_along f g s round lines not_queue side same next = record {
     parts : object_parts (header_for s) (with_record f round.side lines) ≡ object_parts (header_for s) (with_record g round.side lines)
     parts = part_of f ∙ sym (part_of g)
 
-pub next_in : (kind : Kind) (pair : PairView) (state : State) (asks : List Ask) (lines image : List Line) → IsRound kind pair state asks lines → record_in_use image pair.head 0 (round_of pair 0) ≡ lines_of pair 0 → IsNextRecord image (standing_of pair state) (round_for pair state asks) lines
+pub next_in : (kind : Kind) (pair : PairView) (state : State) (asks : List Ask) (lines image : List Line) → IsRound kind pair state asks lines → record_in_use image pair.head 0 (round_of_side pair 0) ≡ lines_of pair 0 → IsNextRecord image (standing_of pair state) (round_for pair state asks) lines
 next_in kind pair state asks lines image is held =
     next_along (lines_of pair) (record_of_side image (standing_of pair state)) (standing_of pair state) (round_for pair state asks) lines (no_queue kind pair state asks lines is) (side_zero kind pair state asks lines is) (sym held) is.next
 
@@ -116,7 +116,7 @@ store_of kind pair state asks lines tale is told ready = record {
 }
 
 -- its operations are the round's
-pub ops_of : (kind : Kind) (pair : PairView) (state : State) (asked asks : List Ask) (lines : List Line) → IsRound kind pair state asks lines → prepared_ops (comb_view pair state asked) (round_for pair state asks) lines ≡ staged_ops pair.head 0 (side_of pair 0) lines
+pub ops_of : (kind : Kind) (pair : PairView) (state : State) (asked asks : List Ask) (lines : List Line) → IsRound kind pair state asks lines → prepared_ops (comb_view pair state asked) (round_for pair state asks) lines ≡ staged_ops pair.head 0 (view_of_side pair 0) lines
 ops_of kind pair state asked asks lines is =
     let s = standing_of pair state in
     let round = round_for pair state asks in
@@ -125,7 +125,7 @@ ops_of kind pair state asked asks lines is =
     let none : cell_ops (header_for s) (next_position s.state) (after_round s round).state ≡ [] = no_cell_ops (header_for s) (next_position s.state) (after_round s round).state (λ queue. no_queue kind pair state asks lines is (sym is.records.kind ∙ (sym (after_entries-kind_of s round.entries) ∙ queue))) in
     λ i. none i ++ stage_over (spare_place (header_for s) (side i) (rounds_of s (side i))) (known_of engine (side i)).spare lines
 
-pub commits_of : (kind : Kind) (pair : PairView) (state : State) (asked asks : List Ask) (lines : List Line) → IsRound kind pair state asks lines → committed_ops (comb_view pair state asked) (round_for pair state asks) ≡ commit_ops 0 (round_of pair 0 + 1)
+pub commits_of : (kind : Kind) (pair : PairView) (state : State) (asked asks : List Ask) (lines : List Line) → IsRound kind pair state asks lines → committed_ops (comb_view pair state asked) (round_for pair state asks) ≡ commit_ops 0 (round_of_side pair 0 + 1)
 commits_of kind pair state asked asks lines is =
     let s = standing_of pair state in
     let side = side_zero kind pair state asks lines is in
@@ -136,7 +136,7 @@ commits_of kind pair state asked asks lines is =
 -- a pair whose first side has this record in use, which is its next one
 pub record HasMoved (lines : List Line) (old new : PairView) : Type 0 where
   pub head : new.head ≡ old.head
-  pub round : round_of new 0 ≡ round_of old 0 + 1
+  pub round : round_of_side new 0 ≡ round_of_side old 0 + 1
   pub lines_are : lines_of new 0 ≡ lines
   pub second : new.second.lines ≡ old.second.lines
 
@@ -159,7 +159,7 @@ standing_moved kind old new state asks lines is moved =
     head : new.head ≡ header_for (after_round s round)
     head = moved.head ∙ sym (next_header s round)
 
-    rounds : round_of new 0 ∷ [] ≡ (after_round s round).rounds
+    rounds : round_of_side new 0 ∷ [] ≡ (after_round s round).rounds
     rounds = ap (λ (n : ℕ). n ∷ []) moved.round ∙ sym (next_round_list s round ∙ ap (λ (n : ℕ). set s.rounds n (rounds_of s n + 1)) side)
 
     state_is : state_from state asks ≡ (after_round s round).state

@@ -13,7 +13,7 @@ use Rattle.pb_layout.specs.Recovered.{listed}
 use Rattle.pb_layout.specs.Represents.{AreRecords}
 use Rattle.pb_pair.specs.declared.known.Known.TheVariants.{Failed}
 use Rattle.pb_pair.specs.Settle.{was_called}
-use Rattle.pb_pair.specs.View.{DoubtView, PairView, IsPair, round_of, lines_of}
+use Rattle.pb_pair.specs.View.{DoubtView, PairView, IsPair, round_of_side, lines_of}
 use Rattle.pb_engine.specs.Asks.{MayBeServed, state_from, asked_round}
 use Rattle.pb_engine.specs.View.{EngineView}
 use Rattle.pb_engine.specs.Pairs.{is_sure, known_records, doubt_of}
@@ -24,7 +24,7 @@ standing_of pair state = record {
   kind = pair.head.kind;
   clients = pair.head.clients;
   size = pair.head.size;
-  rounds = round_of pair 0 ∷ [];
+  rounds = round_of_side pair 0 ∷ [];
   state = state;
   kept = listed pair.head.clients (kept_in_slots (lines_of pair 0));
 }

@@ -49,7 +49,7 @@ impl<O: Object, P: Pmem> Comb<O, P> {
     ghost use Rattle.pb_layout.specs.declared.header.Header.{Header};
     ghost use Rattle.pb_layout.specs.Represents.{header_for};
     ghost use Rattle.pb_pair.specs.Open.{IsOpened};
-    ghost use Rattle.pb_engine.specs.Opening.{IsFresh, IsFreshRefusal, IsAdopted, IsUnreadRefusal};
+    ghost use Rattle.pb_engine.specs.Opening.{IsFreshEngine, IsFreshRefusal, IsAdopted, IsUnreadRefusal};
 
     /// Makes a region on a device that has none, in which nothing was asked yet. The engine is sure.
     ///
@@ -67,7 +67,7 @@ impl<O: Object, P: Pmem> Comb<O, P> {
         requires some_size { 1 ≤ size }
         requires small_size { size ≤ MOST_SIZE }
         ensures ok { let head : Header = record { kind = O.KIND; clients = clients; size = size } in
-            IfOk result (IsFresh head (P.seen device)) }
+            IfOk result (IsFreshEngine head (P.seen device)) }
         ensures err { let head : Header = record { kind = O.KIND; clients = clients; size = size } in
             IfErr result (λ refused. IsFreshRefusal head (P.seen device) (P.seen refused.device) refused.why) }
     {

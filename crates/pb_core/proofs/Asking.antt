@@ -10,7 +10,7 @@ use Rattle.pb_events.specs.declared.event.Stepped.{Stepped}
 use Rattle.pb_core.specs.Client.{Stage, Storing, Looking, is_idle, is_announced, is_holding, stored_words, Client, ask_word}
 use Rattle.pb_core.specs.Memory.{Owner, Free, Held, Closed, Part, AtNumber, AtCode, AtFirst, AtSecond, AtThird, Work, NoWork, Settling, Scanning, Calling, Filling, Noting, GivingUp, Memory, with_at, with_client, shown}
 use Rattle.pb_core.specs.MemoryParts.{IsClient, IsClear, HasEntries, IsSeen, AreSeen, HasPart, HasScan, HasScanOf, IsMemory}
-use Rattle.pb_core.specs.WordMoves.{IsRunning, go_to, Asks, StoresWord, Announces}
+use Rattle.pb_core.specs.WordMoves.{IsNotReopening, go_to, Asks, StoresWord, Announces}
 use Rattle.pb_core.proofs.Basics.{with_at-same, with_at-other, at_each}
 use Rattle.pb_core.proofs.Movers.{ClientOf, OwnClient, move_client}
 
@@ -39,7 +39,7 @@ clear_same stage ask after clear =
 -- Asking
 
 -- while the region isn't being opened again
-pub runs_not_closed : (owner : Owner) → IsRunning owner → ¬ (owner ≡ Closed)
+pub runs_not_closed : (owner : Owner) → IsNotReopening owner → ¬ (owner ≡ Closed)
 runs_not_closed Free running e = cc
 runs_not_closed (Held c side) running e = cc
 runs_not_closed Closed running e = running

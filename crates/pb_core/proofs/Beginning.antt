@@ -16,7 +16,7 @@ use Rattle.pb_object.specs.Standing.{Standing, keep, kept_list_of, newest, newes
 use Rattle.pb_core.specs.Client.{is_idle, is_announced, Client, ask_word, entry_by}
 use Rattle.pb_core.specs.HolderMoves.{entries_by, round_by}
 use Rattle.pb_core.specs.Laws.{AreDue}
-use Rattle.pb_core.specs.Memory.{Owner, side_of}
+use Rattle.pb_core.specs.Memory.{Owner, side_of_operation}
 use Rattle.pb_core.specs.MemoryParts.{IsClient, IsAsking, IsServed, entries_ahead, HasEntries, IsSeen, AreSeen, entries_with}
 use Rattle.pb_core.proofs.Asking.{quiet_low}
 use Rattle.pb_core.proofs.Stages.{announced_busy, announced_words}
@@ -28,7 +28,7 @@ op_side None kind op side is same = absurd is
 op_side (Some action) kind op side is same = same
 
 -- an operation of the kind is of its side
-pub of_side : (kind : Kind) (op : Op) (side : ℕ) → IsOperation kind op → side_of op ≡ side → IsOfSide side op
+pub of_side : (kind : Kind) (op : Op) (side : ℕ) → IsOperation kind op → side_of_operation op ≡ side → IsOfSide side op
 of_side kind op side is same = op_side (action_of op.code) kind op side is same
 
 -- Requests that are due

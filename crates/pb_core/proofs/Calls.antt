@@ -13,7 +13,7 @@ use Rattle.pb_layout.specs.Represents.{header_for}
 use Rattle.pb_layout_laws.proofs.InDoubt.{settling_after, settling_after_failing}
 use Rattle.pb_layout_laws.proofs.Settling.{settling_failing, settling_leaves_one}
 use Rattle.pb_core.specs.DeviceParts.{with_log, IsSteady, IsWriting, IsInDoubtAfter, IsUnsettled, IsSettling}
-use Rattle.pb_core.specs.Memory.{with_round, coming}
+use Rattle.pb_core.specs.Memory.{with_round_ahead, coming}
 use Rattle.pb_core.specs.World.{IsRoundPlan}
 use Rattle.pb_core.specs.WorldMoves.{failed, last_calls}
 use Rattle.pb_core.proofs.Devices.{steady_at, first_calls, plan_cut, steady_holds, steady_quiet, steady_sealed, failed_prefix, begun_prefix, staging_leaves, committing_leaves, committing_seals}
@@ -110,12 +110,12 @@ settles_round {tale} {s} {rounds} {round} doubt =
     steady_at (doubt.entry ++ (doubt.made ++ settle)) (sym (append_assoc doubt.entry doubt.made settle) ∙ ap (λ (l : List LogOp). l ++ settle) (sym doubt.log)) (steady_sealed doubt.begun (settling_after doubt.doubt))
 
 -- what is in doubt after some calls of settling
-unsettled_after : (tale : Tale) (s : Standing) (rounds : History) (ahead : Option Round) (ops : List LogOp) → IsUnsettled tale s rounds ahead → IsFailedPrefix (settle_to (header_for (state_after s rounds)) (with_round ahead (state_after s rounds))) ops → IsUnsettled (with_ops ops tale) s rounds ahead
+unsettled_after : (tale : Tale) (s : Standing) (rounds : History) (ahead : Option Round) (ops : List LogOp) → IsUnsettled tale s rounds ahead → IsFailedPrefix (settle_to (header_for (state_after s rounds)) (with_round_ahead ahead (state_after s rounds))) ops → IsUnsettled (with_ops ops tale) s rounds ahead
 unsettled_after tale s rounds None ops unsettled cut = settles_steady ops unsettled (inl cut)
 unsettled_after tale s rounds (Some round) ops unsettled cut = settles_doubt ops unsettled cut
 
 -- and after all of them
-settled_after : (tale : Tale) (s : Standing) (rounds : History) (ahead : Option Round) → IsUnsettled tale s rounds ahead → IsSteady (with_ops (settle_to (header_for (state_after s rounds)) (with_round ahead (state_after s rounds))) tale) s (rounds ++ coming ahead)
+settled_after : (tale : Tale) (s : Standing) (rounds : History) (ahead : Option Round) → IsUnsettled tale s rounds ahead → IsSteady (with_ops (settle_to (header_for (state_after s rounds)) (with_round_ahead ahead (state_after s rounds))) tale) s (rounds ++ coming ahead)
 settled_after tale s rounds None unsettled =
     subst (IsSteady (with_ops (settle_to (header_for (state_after s rounds)) (state_after s rounds)) tale) s) (sym (append-nil rounds)) (settles_steady (settle_to (header_for (state_after s rounds)) (state_after s rounds)) unsettled (inr refl))
 settled_after tale s rounds (Some round) unsettled = settles_round unsettled
@@ -127,7 +127,7 @@ unsettled_log tale s rounds ahead log same unsettled =
 -- a call is left: what was in doubt is so still
 pub settling_goes_on : {tale : Tale} {s : Standing} {rounds : History} {ahead : Option Round} {entry made left : List LogOp} {op : LogOp} → IsSettling tale s rounds ahead entry made (op ∷ left) → IsUnsettled tale s rounds ahead
 settling_goes_on {tale} {s} {rounds} {ahead} {entry} {made} {left} {op} settling =
-    unsettled_log tale s rounds ahead (entry ++ made) (sym settling.log) (unsettled_after (with_log tale entry) s rounds ahead made settling.begun (begun_prefix (settle_to (header_for (state_after s rounds)) (with_round ahead (state_after s rounds))) made op left (sym settling.planned)))
+    unsettled_log tale s rounds ahead (entry ++ made) (sym settling.log) (unsettled_after (with_log tale entry) s rounds ahead made settling.begun (begun_prefix (settle_to (header_for (state_after s rounds)) (with_round_ahead ahead (state_after s rounds))) made op left (sym settling.planned)))
 
 -- all its calls are made
 pub settling_ends : {tale : Tale} {s : Standing} {rounds : History} {ahead : Option Round} {entry made : List LogOp} → IsSettling tale s rounds ahead entry made [] → IsSteady tale s (rounds ++ coming ahead)
@@ -145,4 +145,4 @@ settling_reached {tale} {s} {rounds} {ahead} {entry} {made} {left} settling = go
 -- one of them fails
 pub settling_fails : {tale : Tale} {s : Standing} {rounds : History} {ahead : Option Round} {entry made left : List LogOp} (how : Leaves) (op : LogOp) → IsSettling tale s rounds ahead entry made (op ∷ left) → IsUnsettled (failed how op tale) s rounds ahead
 settling_fails {tale} {s} {rounds} {ahead} {entry} {made} {left} how op settling =
-    unsettled_log (failed how op tale) s rounds ahead (entry ++ (made ++ option_to_list (left_by how op))) (failed_log tale entry made how op settling.log) (unsettled_after (with_log tale entry) s rounds ahead (made ++ option_to_list (left_by how op)) settling.begun (failed_prefix how (settle_to (header_for (state_after s rounds)) (with_round ahead (state_after s rounds))) made op left (sym settling.planned)))
+    unsettled_log (failed how op tale) s rounds ahead (entry ++ (made ++ option_to_list (left_by how op))) (failed_log tale entry made how op settling.log) (unsettled_after (with_log tale entry) s rounds ahead (made ++ option_to_list (left_by how op)) settling.begun (failed_prefix how (settle_to (header_for (state_after s rounds)) (with_round_ahead ahead (state_after s rounds))) made op left (sym settling.planned)))

@@ -25,9 +25,9 @@ use Rattle.pb_layout_laws.proofs.Settling.{member_left}
 use Rattle.pb_events.specs.declared.event.Stepped.{Stepped}
 use Rattle.pb_core.specs.Client.{row_word, fresh_client}
 use Rattle.pb_core.specs.DeviceParts.{IsSteady, IsWriting, IsInDoubtAfter, IsUnsettled, Fits, opened_state, IsWorld}
-use Rattle.pb_core.specs.Memory.{Held, Closed, Engine, Resting, Recorded, Writing, Doubtful, Memory, coming, opened}
+use Rattle.pb_core.specs.Memory.{Held, Closed, Engine, Resting, Recorded, Writing, Doubtful, Memory, coming, memory_at_opening}
 use Rattle.pb_core.specs.MemoryParts.{IsClient, IsMemory, AreAnswered, HasHistory}
-use Rattle.pb_core.specs.World.{Progress, NoCall, InCall, World}
+use Rattle.pb_core.specs.World.{CallProgress, NoCall, InCall, World}
 use Rattle.pb_core.specs.WorldMoves.{all_rounds, Crashes}
 use Rattle.pb_core.proofs.Calls.{HasReached, before_it, in_doubt, behind_it, writing_reached, settling_reached}
 use Rattle.pb_core.proofs.Entries.{answered-more}
@@ -68,7 +68,7 @@ left_writing {tale} {s} {rounds} {ahead} image left writing =
     go (in_doubt doubt) = left_doubt image left doubt
     go (behind_it steady) = with_it (left_steady image left steady)
 
-left_fits : (engine : Engine) (progress : Progress) (tale : Tale) (s : Standing) (rounds : History) (ahead : Option Round) (image : List Line) → IsCrashImage tale.base tale.log image → Fits engine progress tale s rounds ahead → IsLeft image s rounds ahead
+left_fits : (engine : Engine) (progress : CallProgress) (tale : Tale) (s : Standing) (rounds : History) (ahead : Option Round) (image : List Line) → IsCrashImage tale.base tale.log image → Fits engine progress tale s rounds ahead → IsLeft image s rounds ahead
 left_fits Resting NoCall tale s rounds ahead image left fits = without (left_steady image left fits)
 left_fits Resting (InCall entry made calls) tale s rounds ahead image left fits = absurd fits
 left_fits Recorded NoCall tale s rounds ahead image left fits = with_it (left_steady image left fits)
@@ -143,7 +143,7 @@ opened_client start past c = record {
     closed≢held : (c side : ℕ) → ¬ (Closed ≡ Held c side)
     closed≢held c side e = cc
 
-pub opened_memory : (start : Standing) (past : History) (answers : List Entry) → length start.kept ≡ start.clients → IsLegal start past → AreAnswered past answers → IsMemory (opened start past answers)
+pub opened_memory : (start : Standing) (past : History) (answers : List Entry) → length start.kept ≡ start.clients → IsLegal start past → AreAnswered past answers → IsMemory (memory_at_opening start past answers)
 opened_memory start past answers keeps legal answered = record {
   history = record { keeps = keeps; legal = subst (IsLegal start) (sym (append-nil past)) legal; next = tt };
   turn = omega arith;

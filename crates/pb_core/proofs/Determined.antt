@@ -24,9 +24,9 @@ use Rattle.pb_core.specs.Client.{Stage}
 use Rattle.pb_core.specs.DeviceParts.{IsSteady, IsWorld, opened_state}
 use Rattle.pb_core.specs.HolderMoves.{round_by}
 use Rattle.pb_core.specs.Laws.{IsCaused}
-use Rattle.pb_core.specs.Memory.{Owner, Free, Held, Closed, Part, AtNumber, Work, NoWork, Settling, Scanning, Calling, Filling, Noting, GivingUp, Engine, Resting, Recorded, Writing, Doubtful, Memory, clients_of, known, known_by, shown, opened}
-use Rattle.pb_core.specs.Play.{IsPlayedPlan, IsPlayed, IsCalling, one_more, ComesBefore, at_once, silently, PlaysMove, NextPlayed, Play}
-use Rattle.pb_core.specs.World.{Progress, NoCall, InCall, World, cell_ops, puts_of}
+use Rattle.pb_core.specs.Memory.{Owner, Free, Held, Closed, Part, AtNumber, Work, NoWork, Settling, Scanning, Calling, Filling, Noting, GivingUp, Engine, Resting, Recorded, Writing, Doubtful, Memory, clients_of, known_standing, known_by, shown, memory_at_opening}
+use Rattle.pb_core.specs.Play.{IsPlayedPlan, IsPlayedMove, IsCalling, one_more, ComesBefore, at_once, silently, PlaysMove, NextPlayed, Play}
+use Rattle.pb_core.specs.World.{CallProgress, NoCall, InCall, World, ops_of_puts, puts_of}
 use Rattle.pb_core.specs.WorldMoves.{Silent, begins_calls, ends_calls, begins_settling, ends_settling_none, ends_settling_round, opens, settling_plan, StepsWord, failed, FailsToSettle, FailsToStage, FailsToCommit, Crashes, ReadsRegion, FailsToReopen, last_calls, Moves}
 use Rattle.pb_core.proofs.Causes.{holder_at, caused-word}
 use Rattle.pb_core.proofs.Crashes.{one_prefix, all_legal}
@@ -41,7 +41,7 @@ use Rattle.pb_core.proofs.Worlds.{fits_in, shown_is, keeps-event}
 
 one_plan : {tale : Tale} {s : Standing} {round : Round} {a b : List LogOp} → Represents (contents tale.base tale.log) s → IsPlayedPlan tale s round a → IsPlayedPlan tale s round b → a ≡ b
 one_plan {tale} {s} {round} stands left right =
-    left.is ∙ (ap (λ (lines : List Line). cell_ops (header_for s) (puts_of s round) ++ store_over (header_for s) round.side (rounds_of s round.side) (Some (record_in_use (contents tale.base tale.log) (header_for s) round.side (rounds_of s round.side + 1))) lines)
+    left.is ∙ (ap (λ (lines : List Line). ops_of_puts (header_for s) (puts_of s round) ++ store_over (header_for s) round.side (rounds_of s round.side) (Some (record_in_use (contents tale.base tale.log) (header_for s) round.side (rounds_of s round.side + 1))) lines)
     (one_record (record_of_side (contents tale.base tale.log) s) s round left.lines right.lines (after_entries-kind_of s round.entries ∙ (parts (contents tale.base tale.log) s stands).kind) (after_entries-size_of s round.entries ∙ (parts (contents tale.base tale.log) s stands).size) left.next right.next left.listed right.listed)
     ∙ sym right.is)
 
@@ -51,14 +51,14 @@ abbrev settles_by : Option Round → World → World
 settles_by None w = record { memory = record (w.memory) { work = Scanning 0 AtNumber []; engine = Resting }; tale = w.tale; progress = NoCall }
 settles_by (Some round) w = record { memory = record (w.memory) { work = Filling 0; engine = Recorded }; tale = w.tale; progress = NoCall }
 
-abbrev settles : Progress → World → World
+abbrev settles : CallProgress → World → World
 settles NoCall w = record w { progress = InCall w.tale.log [] (settling_plan w.memory) }
 settles (InCall entry made left) w = settles_by w.memory.ahead w
 
 abbrev goes_at : Work → ℕ → World → List LogOp → World
 goes_at NoWork side w plan = w
 goes_at Settling side w plan = settles w.progress w
-goes_at (Scanning d part seen) side w plan = record { memory = record (w.memory) { ahead = Some (round_by side (known w.memory) seen); work = Calling; engine = Writing }; tale = w.tale; progress = InCall w.tale.log [] plan }
+goes_at (Scanning d part seen) side w plan = record { memory = record (w.memory) { ahead = Some (round_by side (known_standing w.memory) seen); work = Calling; engine = Writing }; tale = w.tale; progress = InCall w.tale.log [] plan }
 goes_at Calling side w plan = record { memory = record (w.memory) { work = Filling 0; engine = Recorded }; tale = w.tale; progress = NoCall }
 goes_at (Filling count) side w plan = w
 goes_at (Noting from to) side w plan = w
@@ -74,7 +74,7 @@ abbrev IsPlanAt : Work → ℕ → World → List LogOp → Type 0
 IsPlanAt NoWork side w plan = Unit {0}
 IsPlanAt Settling side w plan = Unit {0}
 IsPlanAt (Scanning d part seen) side w plan =
-    (d ≡ clients_of w.memory) × (part ≡ AtNumber) × IsPlayedPlan w.tale (known w.memory) (round_by side (known w.memory) seen) plan
+    (d ≡ clients_of w.memory) × (part ≡ AtNumber) × IsPlayedPlan w.tale (known_standing w.memory) (round_by side (known_standing w.memory) seen) plan
 IsPlanAt Calling side w plan = Unit {0}
 IsPlanAt (Filling count) side w plan = Unit {0}
 IsPlanAt (Noting from to) side w plan = Unit {0}
@@ -98,7 +98,7 @@ goes_held {old} {new} c side work plan holds at planned is = record {
   is = is ∙ (sym (ap (λ (x : Work). goes_at x side old plan) at) ∙ sym (ap (λ (o : Owner). goes o old plan) holds));
 }
 
-silent_goes : {old new : World} (move : Silent old new) → IsPlayed old new move → Goes old new
+silent_goes : {old new : World} (move : Silent old new) → IsPlayedMove old new move → Goes old new
 silent_goes {old} {new} (begins_calls step) played =
     goes_held step.client step.move.side (Scanning (clients_of old.memory) AtNumber step.move.seen) step.plan step.move.holds step.move.at (refl, refl, played)
     (step.is ∙ ap (λ (m : Memory). record { memory = m; tale = old.tale; progress = InCall old.tale.log [] step.plan }) step.move.is)
@@ -106,21 +106,21 @@ silent_goes {old} {new} (ends_calls step) played =
     goes_held step.client step.move.side Calling [] step.move.holds step.move.at tt
     (step.is ∙ ap (λ (m : Memory). record { memory = m; tale = old.tale; progress = NoCall }) step.move.is)
 silent_goes {old} {new} (begins_settling step) played =
-    goes_held step.client step.side Settling [] step.holds step.at tt (step.is ∙ sym (ap (λ (p : Progress). settles p old) step.idle))
+    goes_held step.client step.side Settling [] step.holds step.at tt (step.is ∙ sym (ap (λ (p : CallProgress). settles p old) step.idle))
 silent_goes {old} {new} (ends_settling_none step) played =
     goes_held step.client step.move.side Settling [] step.move.holds step.move.at tt
-    (step.is ∙ (ap (λ (m : Memory). record { memory = m; tale = old.tale; progress = NoCall }) step.move.is ∙ (sym (ap (λ (a : Option Round). settles_by a old) step.move.none) ∙ sym (ap (λ (p : Progress). settles p old) step.at))))
+    (step.is ∙ (ap (λ (m : Memory). record { memory = m; tale = old.tale; progress = NoCall }) step.move.is ∙ (sym (ap (λ (a : Option Round). settles_by a old) step.move.none) ∙ sym (ap (λ (p : CallProgress). settles p old) step.at))))
 silent_goes {old} {new} (ends_settling_round step) played =
     goes_held step.client step.move.side Settling [] step.move.holds step.move.at tt
-    (step.is ∙ (ap (λ (m : Memory). record { memory = m; tale = old.tale; progress = NoCall }) step.move.is ∙ (sym (ap (λ (a : Option Round). settles_by a old) step.move.some) ∙ sym (ap (λ (p : Progress). settles p old) step.at))))
+    (step.is ∙ (ap (λ (m : Memory). record { memory = m; tale = old.tale; progress = NoCall }) step.move.is ∙ (sym (ap (λ (a : Option Round). settles_by a old) step.move.some) ∙ sym (ap (λ (p : CallProgress). settles p old) step.at))))
 silent_goes {old} {new} (opens step) played = record {
   plan = [];
   planned = subst (λ (o : Owner). IsPlan o old []) (sym step.closed) tt;
   is = step.is ∙ sym (ap (λ (o : Owner). goes o old []) step.closed);
 }
 
--- a scan that is over is in a region that represents what is known
-known_stands : (w : World) (c side d : ℕ) (part : Part) (seen : List Ask) → IsWorld w → w.memory.owner ≡ Held c side → w.memory.work ≡ Scanning d part seen → (p : Progress) → w.progress ≡ p → Represents (contents w.tale.base w.tale.log) (known w.memory)
+-- a scan that is over is in a region that represents what is known_standing
+known_stands : (w : World) (c side d : ℕ) (part : Part) (seen : List Ask) → IsWorld w → w.memory.owner ≡ Held c side → w.memory.work ≡ Scanning d part seen → (p : CallProgress) → w.progress ≡ p → Represents (contents w.tale.base w.tale.log) (known_standing w.memory)
 known_stands w c side d part seen is holds at NoCall idle =
     let resting = (work_suits (Scanning d part seen) is.memory_is holds at).0 in
     let steady : IsSteady w.tale (opened_state w.memory) w.memory.published = fits_in w Resting NoCall idle resting is in
@@ -159,14 +159,14 @@ before_one {now} {old} is (silently later move played) (silently late other play
 abbrev IsOne : World → World → Stepped → Stepped → Type 0
 IsOne a b said says = (a ≡ b) × (said ≡ says)
 
-calls_by : Progress → World → World
+calls_by : CallProgress → World → World
 calls_by NoCall w = w
 calls_by (InCall entry made []) w = w
 calls_by (InCall entry made (op ∷ left)) w = record w { tale = with_op op w.tale; progress = InCall entry (made ++ op ∷ []) left }
 
 call_one : (old : World) {a b : World} {entry made left entry2 made2 left2 : List LogOp} {op op2 : LogOp} → old.progress ≡ InCall entry made (op ∷ left) → old.progress ≡ InCall entry2 made2 (op2 ∷ left2) → a ≡ record old { tale = with_op op old.tale; progress = InCall entry (made ++ op ∷ []) left } → b ≡ record old { tale = with_op op2 old.tale; progress = InCall entry2 (made2 ++ op2 ∷ []) left2 } → a ≡ b
 unfolding calls_by
-call_one old at also one other = one ∙ (sym (ap (λ (p : Progress). calls_by p old) at) ∙ (ap (λ (p : Progress). calls_by p old) also ∙ sym other))
+call_one old at also one other = one ∙ (sym (ap (λ (p : CallProgress). calls_by p old) at) ∙ (ap (λ (p : CallProgress). calls_by p old) also ∙ sym other))
 
 -- a step on a word isn't one at which a call is made
 no_word_step : {old new : World} {c side : ℕ} {answer : Stepped} → IsWorld old → StepsWord old c new answer → old.memory.owner ≡ Held c side → IsCalling old.memory.work → ⊥
@@ -195,12 +195,12 @@ steps_one {old} {a} {b} {c} {said} {says} is left right =
 
 -- Failures
 
-abbrev fails_at : Progress → Leaves → Tale → Tale
+abbrev fails_at : CallProgress → Leaves → Tale → Tale
 fails_at NoCall how tale = tale
 fails_at (InCall entry made []) how tale = tale
 fails_at (InCall entry made (op ∷ left)) how tale = failed how op tale
 
-abbrev left_count : Progress → ℕ
+abbrev left_count : CallProgress → ℕ
 left_count NoCall = 0
 left_count (InCall entry made left) = length left
 
@@ -262,7 +262,7 @@ fails_one count (inr (inr one)) counts (inr (inr two)) = (commit_fails one count
 
 crashes_one : {old a b : World} {cut pick : ℕ} {said says : Stepped} → IsWorld old → Crashes old cut pick a said → Crashes old cut pick b says → IsOne a b said says
 crashes_one {old} {a} {b} {cut} {pick} is one two = (
-  one.is ∙ (ap (λ (kept : History). record { memory = opened old.memory.start kept old.memory.answers; tale = record { base = image; log = [] }; progress = NoCall }) kept ∙ sym two.is),
+  one.is ∙ (ap (λ (kept : History). record { memory = memory_at_opening old.memory.start kept old.memory.answers; tale = record { base = image; log = [] }; progress = NoCall }) kept ∙ sym two.is),
   one.says ∙ sym two.says,
 )
   where
@@ -276,7 +276,7 @@ crashes_one {old} {a} {b} {cut} {pick} is one two = (
 
 -- Opening the region again
 
-idle_or_calling : {p : Progress} {entry made left : List LogOp} → p ≡ NoCall → p ≡ InCall entry made left → ⊥
+idle_or_calling : {p : CallProgress} {entry made left : List LogOp} → p ≡ NoCall → p ≡ InCall entry made left → ⊥
 idle_or_calling {p} {entry} {made} {left} idle at = let same : NoCall ≡ InCall entry made left = sym idle ∙ at in cc
 
 reads_one : {old a b : World} {said says : Stepped} → ReadsRegion old a said → ReadsRegion old b says → IsOne a b said says

@@ -34,7 +34,7 @@ use Rattle.pb_layout_laws.proofs.Storing.{IsStoreBy}
 use Rattle.pb_layout_laws.proofs.StoreExits.{staging_outside, store_by_while_committing, store_by_whole}
 use Rattle.pb_layout_laws.proofs.UnusedLines.{writing_unused, writing_unused_failing}
 use Rattle.pb_core.specs.DeviceParts.{with_log, IsSteady, IsInDoubtAfter}
-use Rattle.pb_core.specs.World.{Put, cell_ops, AreFree, IsRoundPlan}
+use Rattle.pb_core.specs.World.{Put, ops_of_puts, AreFreePositions, IsRoundPlan}
 use Rattle.pb_core.specs.WorldMoves.{last_calls}
 use Rattle.pb_core.proofs.Lists.{All-front}
 
@@ -113,18 +113,18 @@ begun_prefix all made op rest whole =
 
 -- The calls of a round, before its index word
 
-cells_outside : (image : List Line) (s : Standing) (puts : List Put) → Represents image s → AreFree s.state puts → All (IsOutside s) (cell_ops (header_for s) puts)
+cells_outside : (image : List Line) (s : Standing) (puts : List Put) → Represents image s → AreFreePositions s.state puts → All (IsOutside s) (ops_of_puts (header_for s) puts)
 cells_outside image s [] stands free = All-nil (IsOutside s)
 cells_outside image s (put ∷ puts) stands free =
-    All-cons (IsOutside s) (Whole (cell_place (header_for s) put.position) (cell_line_of put.position put.value)) (Back (cell_place (header_for s) put.position) 1 ∷ cell_ops (header_for s) puts) (free_unused image s put.position stands free.0) (All-cons (IsOutside s) (Back (cell_place (header_for s) put.position) 1) (cell_ops (header_for s) puts) tt (cells_outside image s puts stands free.1))
+    All-cons (IsOutside s) (Whole (cell_place (header_for s) put.position) (cell_line_of put.position put.value)) (Back (cell_place (header_for s) put.position) 1 ∷ ops_of_puts (header_for s) puts) (free_unused image s put.position stands free.0) (All-cons (IsOutside s) (Back (cell_place (header_for s) put.position) 1) (ops_of_puts (header_for s) puts) tt (cells_outside image s puts stands free.1))
 
 -- the calls before the index word: they write no line in use
 abbrev pub first_calls : {tale : Tale} {s : Standing} {round : Round} {plan : List LogOp} → IsRoundPlan tale s round plan → List LogOp
-first_calls {tale} {s} {round} planned = cell_ops (header_for s) planned.puts ++ stage_by planned.writes (header_for s) round.side (rounds_of s round.side)
+first_calls {tale} {s} {round} planned = ops_of_puts (header_for s) planned.puts ++ stage_by planned.writes (header_for s) round.side (rounds_of s round.side)
 
 pub plan_cut : {tale : Tale} {s : Standing} {round : Round} {plan : List LogOp} (planned : IsRoundPlan tale s round plan) → plan ≡ first_calls planned ++ last_calls s round
 plan_cut {tale} {s} {round} planned =
-    planned.is ∙ sym (append_assoc (cell_ops (header_for s) planned.puts) (stage_by planned.writes (header_for s) round.side (rounds_of s round.side)) (last_calls s round))
+    planned.is ∙ sym (append_assoc (ops_of_puts (header_for s) planned.puts) (stage_by planned.writes (header_for s) round.side (rounds_of s round.side)) (last_calls s round))
 
 first_outside : {tale : Tale} {s : Standing} {round : Round} {plan : List LogOp} → Represents (contents tale.base tale.log) s → (planned : IsRoundPlan tale s round plan) → All (IsOutside s) (first_calls planned)
 first_outside {tale} {s} {round} stands planned =
@@ -132,7 +132,7 @@ first_outside {tale} {s} {round} stands planned =
     let count = record_length (header_for s) in
     let image = contents tale.base tale.log in
     let staging : All (IsStagingOp first count) planned.writes = subst (λ (n : ℕ). All (IsStagingOp first n) planned.writes) planned.next.long planned.staged.all in
-    All-append (IsOutside s) (cell_ops (header_for s) planned.puts) (fenced_ops planned.writes first count) (cells_outside image s planned.puts stands planned.free) (staging_outside image s round.side count (fenced_ops planned.writes first count) stands (omega arith) (quiet_fenced first count planned.writes staging))
+    All-append (IsOutside s) (ops_of_puts (header_for s) planned.puts) (fenced_ops planned.writes first count) (cells_outside image s planned.puts stands planned.free) (staging_outside image s round.side count (fenced_ops planned.writes first count) stands (omega arith) (quiet_fenced first count planned.writes staging))
 
 -- a round whose index word is still to be called leaves the device as it was
 pub staging_leaves : {tale : Tale} {s : Standing} {rounds : History} {round : Round} {plan : List LogOp} (ops : List LogOp) → IsSteady tale s rounds → (planned : IsRoundPlan tale (state_after s rounds) round plan) → IsFailedPrefix (first_calls planned) ops ⊎ ((more : List LogOp) × (first_calls planned ≡ ops ++ more)) → IsSteady (with_ops ops tale) s rounds
@@ -144,11 +144,11 @@ staging_leaves {tale} {s} {rounds} {round} ops steady planned (inr (more, whole)
 -- The calls of a round, from its index word on
 
 -- the device with the cells of the round's items
-with_cells : {tale : Tale} {s : Standing} {rounds : History} {round : Round} {plan : List LogOp} → IsSteady tale s rounds → (planned : IsRoundPlan tale (state_after s rounds) round plan) → IsExit tale.base tale.log (cell_ops (header_for (state_after s rounds)) planned.puts) (state_after s rounds) [] (Some (state_after s rounds) ∷ [])
+with_cells : {tale : Tale} {s : Standing} {rounds : History} {round : Round} {plan : List LogOp} → IsSteady tale s rounds → (planned : IsRoundPlan tale (state_after s rounds) round plan) → IsExit tale.base tale.log (ops_of_puts (header_for (state_after s rounds)) planned.puts) (state_after s rounds) [] (Some (state_after s rounds) ∷ [])
 with_cells {tale} {s} {rounds} steady planned =
-    writing_unused tale.base tale.log (cell_ops (header_for (state_after s rounds)) planned.puts) (state_after s rounds) steady.exit.ready (cells_outside (contents tale.base tale.log) (state_after s rounds) planned.puts (steady_holds steady) planned.free)
+    writing_unused tale.base tale.log (ops_of_puts (header_for (state_after s rounds)) planned.puts) (state_after s rounds) steady.exit.ready (cells_outside (contents tale.base tale.log) (state_after s rounds) planned.puts (steady_holds steady) planned.free)
 
-is_store : {tale : Tale} {s : Standing} {rounds : History} {round : Round} {plan : List LogOp} → IsSteady tale s rounds → (planned : IsRoundPlan tale (state_after s rounds) round plan) → IsStoreBy tale.base (tale.log ++ cell_ops (header_for (state_after s rounds)) planned.puts) (state_after s rounds) round planned.lines planned.writes
+is_store : {tale : Tale} {s : Standing} {rounds : History} {round : Round} {plan : List LogOp} → IsSteady tale s rounds → (planned : IsRoundPlan tale (state_after s rounds) round plan) → IsStoreBy tale.base (tale.log ++ ops_of_puts (header_for (state_after s rounds)) planned.puts) (state_after s rounds) round planned.lines planned.writes
 is_store steady planned = record {
   ready = (with_cells steady planned).ready;
   next = planned.next;
@@ -178,7 +178,7 @@ committing_leaves {tale} {s} {rounds} {round} tail steady planned cut = record {
 }
   where
     cells : List LogOp
-    cells = cell_ops (header_for (state_after s rounds)) planned.puts
+    cells = ops_of_puts (header_for (state_after s rounds)) planned.puts
 
     stage : List LogOp
     stage = stage_by planned.writes (header_for (state_after s rounds)) round.side (rounds_of (state_after s rounds) round.side)

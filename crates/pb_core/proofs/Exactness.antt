@@ -19,8 +19,8 @@ use Rattle.pb_core.specs.DeviceParts.{IsSteady, IsUnsettled, opened_state, IsWor
 use Rattle.pb_core.specs.Memory.{Owner, Free, Held, Closed, Resting, Doubtful, Memory, clients_of}
 use Rattle.pb_core.specs.MemoryParts.{IsMemory}
 use Rattle.pb_core.specs.Possible.{IsOpening, IsReopening, IsPossible, MayAsk, MayStep, MayCrash, IsExact}
-use Rattle.pb_core.specs.WordMoves.{IsRunning, asks, Asks, WordMove, storing, announcing, looking, matching, lacking_held, lacking_free, loading_code, loading_value, loading_extra, confirming, finding_new, finding_held, taking_sure, taking_unsure, missing, passing_over, meeting, scanning_code, scanning_first, scanning_second, scanning_own, scanning_other, filling, publishing_own, publishing_others, noting, giving_up}
-use Rattle.pb_core.specs.World.{Progress, NoCall, InCall, World}
+use Rattle.pb_core.specs.WordMoves.{IsNotReopening, asks, Asks, WordMove, storing, announcing, looking, matching, lacking_held, lacking_free, loading_code, loading_value, loading_extra, confirming, finding_new, finding_held, taking_sure, taking_unsure, missing, passing_over, meeting, scanning_code, scanning_first, scanning_second, scanning_own, scanning_other, filling, publishing_own, publishing_others, noting, giving_up}
+use Rattle.pb_core.specs.World.{CallProgress, NoCall, InCall, World}
 use Rattle.pb_core.specs.WorldMoves.{Silent, begins_calls, ends_calls, begins_settling, ends_settling_none, ends_settling_round, opens, Silents, failed, Moves}
 use Rattle.pb_core.proofs.Devices.{steady_holds}
 use Rattle.pb_core.proofs.Failing.{may_fail, can_fail}
@@ -37,7 +37,7 @@ record IsSameTo (old new : World) : Type 0 where
   book : new.memory.book ≡ old.memory.book
   tale : new.tale ≡ old.tale
 
-same_book : {old new : World} (next : Memory) (progress : Progress) → new ≡ record { memory = next; tale = old.tale; progress = progress } → next.start ≡ old.memory.start → next.book ≡ old.memory.book → IsSameTo old new
+same_book : {old new : World} (next : Memory) (progress : CallProgress) → new ≡ record { memory = next; tale = old.tale; progress = progress } → next.start ≡ old.memory.start → next.book ≡ old.memory.book → IsSameTo old new
 same_book next progress is start book = record {
   clients = ap (λ (w : World). w.memory.start) is ∙ start;
   book = ap (λ (w : World). w.memory.book) is ∙ book;
@@ -68,10 +68,10 @@ same-silents (suc count) old new (middle, first, more) =
 held_open : (w : World) {c side : ℕ} → w.memory.owner ≡ Held c side → ¬ IsReopening w
 held_open w holds opening = subst (λ (o : Owner). IsOpening o w.progress) holds opening
 
-running_open : (w : World) → IsRunning w.memory.owner → ¬ IsReopening w
+running_open : (w : World) → IsNotReopening w.memory.owner → ¬ IsReopening w
 running_open w running opening = go w.memory.owner running opening
   where
-    go : (owner : Owner) → IsRunning owner → IsOpening owner w.progress → ⊥
+    go : (owner : Owner) → IsNotReopening owner → IsOpening owner w.progress → ⊥
     go Free running opening = opening
     go (Held c side) running opening = opening
     go Closed running opening = running
@@ -84,7 +84,7 @@ silent_open {old} (begins_settling step) = held_open old step.holds
 silent_open {old} (ends_settling_none step) = held_open old step.move.holds
 silent_open {old} (ends_settling_round step) = held_open old step.move.holds
 silent_open {old} (opens step) =
-    λ opening. subst (λ (p : Progress). IsOpening Closed p) step.at (subst (λ (o : Owner). IsOpening o old.progress) step.closed opening)
+    λ opening. subst (λ (p : CallProgress). IsOpening Closed p) step.at (subst (λ (o : Owner). IsOpening o old.progress) step.closed opening)
 
 -- .. and after one it isn't closed
 held_not_closed : (m next : Memory) {c side : ℕ} → next.owner ≡ m.owner → m.owner ≡ Held c side → ¬ (next.owner ≡ Closed)
@@ -210,7 +210,7 @@ may_ask {w} {ask} possible = record {
     move = possible.next.move.move
 
 -- a client asks in a world that is open
-asks_now : {w : World} {ask : Ask} (middle : World) (count : ℕ) → Silents count w middle → IsRunning middle.memory.owner → MayAsk w ask → middle.memory.start ≡ w.memory.start → middle.memory.book ≡ w.memory.book → IsPossible w (AskEvent ask)
+asks_now : {w : World} {ask : Ask} (middle : World) (count : ℕ) → Silents count w middle → IsNotReopening middle.memory.owner → MayAsk w ask → middle.memory.start ≡ w.memory.start → middle.memory.book ≡ w.memory.book → IsPossible w (AskEvent ask)
 asks_now {w} {ask} middle count silents running may start book = record {
   new = record middle { memory = asks ask.client ask middle.memory };
   answer = Went;
@@ -238,18 +238,18 @@ asks_now {w} {ask} middle count silents running may start book = record {
 can_ask : {w : World} {ask : Ask} → MayAsk w ask → IsPossible w (AskEvent ask)
 can_ask {w} {ask} may = go w.memory.owner refl w.progress refl
   where
-    now : IsRunning w.memory.owner → IsPossible w (AskEvent ask)
+    now : IsNotReopening w.memory.owner → IsPossible w (AskEvent ask)
     now running = asks_now w 0 refl running may refl refl
 
     opened_now : World
     opened_now = record { memory = record (w.memory) { owner = Free; engine = Resting }; tale = w.tale; progress = NoCall }
 
-    opening : (owner : Owner) → w.memory.owner ≡ owner → (progress : Progress) → w.progress ≡ progress → ¬ IsOpening owner progress
-    opening owner o progress p is = may.open_now (subst (λ (q : Progress). IsOpening w.memory.owner q) (sym p) (subst (λ (x : Owner). IsOpening x progress) (sym o) is))
+    opening : (owner : Owner) → w.memory.owner ≡ owner → (progress : CallProgress) → w.progress ≡ progress → ¬ IsOpening owner progress
+    opening owner o progress p is = may.open_now (subst (λ (q : CallProgress). IsOpening w.memory.owner q) (sym p) (subst (λ (x : Owner). IsOpening x progress) (sym o) is))
 
-    go : (owner : Owner) → w.memory.owner ≡ owner → (progress : Progress) → w.progress ≡ progress → IsPossible w (AskEvent ask)
-    go Free o progress p = now (subst IsRunning (sym o) tt)
-    go (Held c side) o progress p = now (subst IsRunning (sym o) tt)
+    go : (owner : Owner) → w.memory.owner ≡ owner → (progress : CallProgress) → w.progress ≡ progress → IsPossible w (AskEvent ask)
+    go Free o progress p = now (subst IsNotReopening (sym o) tt)
+    go (Held c side) o progress p = now (subst IsNotReopening (sym o) tt)
     go Closed o NoCall p = absurd (opening Closed o NoCall p tt)
     go Closed o (InCall entry made []) p =
         asks_now opened_now 1 (opened_now, opens (record { closed = o; entry = entry; made = made; at = p; is = refl }), refl) tt may refl refl
@@ -273,9 +273,9 @@ crashes_now {w} cut pick is may =
 -- Opening the region again
 
 -- the region is closed, at a place in its opening
-at_opening : (w : World) (progress : Progress) → w.memory.owner ≡ Closed → w.progress ≡ progress → IsOpening Closed progress → IsReopening w
+at_opening : (w : World) (progress : CallProgress) → w.memory.owner ≡ Closed → w.progress ≡ progress → IsOpening Closed progress → IsReopening w
 at_opening w progress closed at opening =
-    subst (λ (p : Progress). IsOpening w.memory.owner p) (sym at) (subst (λ (o : Owner). IsOpening o progress) (sym closed) opening)
+    subst (λ (p : CallProgress). IsOpening w.memory.owner p) (sym at) (subst (λ (o : Owner). IsOpening o progress) (sym closed) opening)
 
 -- there were no moves that nobody sees before
 closed_now : (count : ℕ) (w middle : World) → Silents count w middle → middle.memory.owner ≡ Closed → IsReopening middle → IsReopening w
@@ -310,7 +310,7 @@ may_fail_to_reopen {w} {how} possible = go possible.next.move
 opening_cases : (w : World) (Goal : Type 0) → IsReopening w → (w.memory.owner ≡ Closed → w.progress ≡ NoCall → Goal) → (w.memory.owner ≡ Closed → (entry made : List LogOp) (op : LogOp) (left : List LogOp) → w.progress ≡ InCall entry made (op ∷ left) → Goal) → Goal
 opening_cases w Goal opening reads calls = go w.memory.owner refl w.progress refl opening
   where
-    go : (owner : Owner) → w.memory.owner ≡ owner → (progress : Progress) → w.progress ≡ progress → IsOpening owner progress → Goal
+    go : (owner : Owner) → w.memory.owner ≡ owner → (progress : CallProgress) → w.progress ≡ progress → IsOpening owner progress → Goal
     go Free o progress p opening = absurd opening
     go (Held c side) o progress p opening = absurd opening
     go Closed o NoCall p opening = reads o p

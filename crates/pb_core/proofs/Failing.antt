@@ -11,9 +11,9 @@ use Rattle.pb_events.specs.declared.event.Event.TheVariants.{Fail}
 use Rattle.pb_events.specs.declared.event.Stepped.TheVariants.{Went}
 use Rattle.pb_core.specs.DeviceParts.{IsWriting, opened_state, IsWorld}
 use Rattle.pb_core.specs.HolderMoves.{round_by}
-use Rattle.pb_core.specs.Memory.{Owner, Held, AtNumber, AtCode, AtFirst, AtSecond, AtThird, Work, NoWork, Settling, Scanning, Calling, Filling, Noting, GivingUp, Writing, Doubtful, Memory, clients_of, shown, known}
+use Rattle.pb_core.specs.Memory.{Owner, Held, AtNumber, AtCode, AtFirst, AtSecond, AtThird, Work, NoWork, Settling, Scanning, Calling, Filling, Noting, GivingUp, Writing, Doubtful, Memory, clients_of, shown, known_standing}
 use Rattle.pb_core.specs.Possible.{IsPossible, HasPlan, IsCallDue, MayFail}
-use Rattle.pb_core.specs.World.{Progress, NoCall, InCall, World}
+use Rattle.pb_core.specs.World.{CallProgress, NoCall, InCall, World}
 use Rattle.pb_core.specs.WorldMoves.{Silent, begins_calls, ends_calls, begins_settling, ends_settling_none, ends_settling_round, opens, Silents, settling_plan, failed, last_calls, Moves}
 use Rattle.pb_core.proofs.Devices.{first_calls, plan_cut}
 use Rattle.pb_core.proofs.Lists.{IsBefore, two_cuts}
@@ -23,18 +23,18 @@ use Rattle.pb_core.proofs.Worlds.{shown_is, fits_in, keeps-silents}
 
 -- Before a move that nobody sees
 
-due_at : (w : World) (work : Work) (progress : Progress) → w.memory.work ≡ work → w.progress ≡ progress → IsCallDue work progress (clients_of w.memory) → IsCallDue w.memory.work w.progress (clients_of w.memory)
+due_at : (w : World) (work : Work) (progress : CallProgress) → w.memory.work ≡ work → w.progress ≡ progress → IsCallDue work progress (clients_of w.memory) → IsCallDue w.memory.work w.progress (clients_of w.memory)
 due_at w work progress at going due =
-    subst (λ (x : Work). IsCallDue x w.progress (clients_of w.memory)) (sym at) (subst (λ (p : Progress). IsCallDue work p (clients_of w.memory)) (sym going) due)
+    subst (λ (x : Work). IsCallDue x w.progress (clients_of w.memory)) (sym at) (subst (λ (p : CallProgress). IsCallDue work p (clients_of w.memory)) (sym going) due)
 
-due_in : (w : World) (work : Work) (progress : Progress) → w.memory.work ≡ work → w.progress ≡ progress → IsCallDue w.memory.work w.progress (clients_of w.memory) → IsCallDue work progress (clients_of w.memory)
+due_in : (w : World) (work : Work) (progress : CallProgress) → w.memory.work ≡ work → w.progress ≡ progress → IsCallDue w.memory.work w.progress (clients_of w.memory) → IsCallDue work progress (clients_of w.memory)
 due_in w work progress at going due =
-    subst (λ (p : Progress). IsCallDue work p (clients_of w.memory)) going (subst (λ (x : Work). IsCallDue x w.progress (clients_of w.memory)) at due)
+    subst (λ (p : CallProgress). IsCallDue work p (clients_of w.memory)) going (subst (λ (x : Work). IsCallDue x w.progress (clients_of w.memory)) at due)
 
 abbrev work_of : World → Work
 work_of w = w.memory.work
 
-abbrev progress_of : World → Progress
+abbrev progress_of : World → CallProgress
 progress_of w = w.progress
 
 abbrev owner_of : World → Owner
@@ -202,12 +202,12 @@ can_fail {w} {c} how is plans may = go w.memory.work refl w.progress refl may.du
         let here : w.memory.work ≡ Scanning (clients_of w.memory) AtNumber seen = at ∙ ap (λ (e : ℕ). Scanning e AtNumber seen) over in
         let plan = plans c may.side seen may.holds here in
         let first = plan_first plan.1 in
-        let next : Memory = record (w.memory) { ahead = Some (round_by may.side (known w.memory) seen); work = Calling; engine = Writing } in
+        let next : Memory = record (w.memory) { ahead = Some (round_by may.side (known_standing w.memory) seen); work = Calling; engine = Writing } in
         let middle : World = record { memory = next; tale = w.tale; progress = InCall w.tale.log [] plan.0 } in
         let silents : Silents 1 w middle = one_silent (begins_calls (record { client = c; there = may.there; next = next; move = record { side = may.side; holds = may.holds; seen = seen; at = here; is = refl }; idle = idle; plan = plan.0; planned = plan.1; is = refl })) in
         fails_calling middle how 1 w.tale.log [] first.0 first.1 silents (keeps-silents 1 w middle is silents) may.there may.holds refl (ap (InCall w.tale.log []) first.2)
 
-    go : (work : Work) → w.memory.work ≡ work → (progress : Progress) → w.progress ≡ progress → IsCallDue work progress (clients_of w.memory) → IsPossible w (Fail c how)
+    go : (work : Work) → w.memory.work ≡ work → (progress : CallProgress) → w.progress ≡ progress → IsCallDue work progress (clients_of w.memory) → IsPossible w (Fail c how)
     go NoWork at progress going due = absurd due
     go Settling at NoCall idle due =
         fails_settling begun how 1 w.tale.log [] (Word 0 0 MAGIC) (drop 1 (settling_plan w.memory)) (one_silent (begins_settling (record { client = c; side = may.side; holds = may.holds; at = at; idle = idle; is = refl }))) may.there may.holds at refl

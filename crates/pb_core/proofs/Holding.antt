@@ -11,7 +11,7 @@ use Rattle.pb_pmem.specs.Count.{Rose}
 use Rattle.pb_core.specs.Client.{Client}
 use Rattle.pb_core.specs.HolderMoves.{round_by, Begins, Records, SettlesNone, SettlesRound, FailsSettling, FailsBefore, FailsAfter, HolderMove, beginning, recording, settling_none, settling_round, failing_settling, failing_before, failing_after}
 use Rattle.pb_core.specs.Laws.{AreDue}
-use Rattle.pb_core.specs.Memory.{Owner, Held, AtNumber, Work, Settling, Scanning, Calling, Filling, Noting, Engine, Resting, Recorded, Writing, Doubtful, Memory, shown, known}
+use Rattle.pb_core.specs.Memory.{Owner, Held, AtNumber, Work, Settling, Scanning, Calling, Filling, Noting, Engine, Resting, Recorded, Writing, Doubtful, Memory, shown, known_standing}
 use Rattle.pb_core.specs.MemoryParts.{IsClient, HasEntries, IsAsking, AreSeen, Meets, IsScan, HasScan, IsMemory, SuitsWork, Suits, HasCause, HasFilled}
 use Rattle.pb_core.proofs.Beginning.{IsOpen, seen_open, due-round, of_side, served_still, begins_client}
 use Rattle.pb_core.proofs.Histories.{HasShape, shape_after}
@@ -87,14 +87,14 @@ keeps-beginning {old} {new} {c} is there move = subst IsMemory (sym (move.is ∙
     scan : IsScan (shown old) c move.side old.start.clients old.requests old.start.clients AtNumber move.seen
     scan = the_scan old.start.clients AtNumber move.seen is move.holds move.at
 
-    as_shown : record old { ahead = Some (round_by move.side (known old) move.seen); work = Calling; engine = Writing } ≡ record old { ahead = Some round; work = Calling; engine = Writing }
+    as_shown : record old { ahead = Some (round_by move.side (known_standing old) move.seen); work = Calling; engine = Writing } ≡ record old { ahead = Some round; work = Calling; engine = Writing }
     as_shown =
         ap (λ (s : Standing). record old { ahead = Some (round_by move.side s move.seen); work = Calling; engine = Writing }) (known_shown old.start.clients AtNumber move.seen is move.holds move.at)
 
 -- Recording and settling
 
--- the holder goes on to something, and what is known of the device changes
-hold_on : {m : Memory} {c side : ℕ} (work : Work) (engine : Engine) → IsMemory m → m.owner ≡ Held c side → SuitsWork work engine m.ahead → HasCause work m.noted m.count → HasFilled work (known (record m { engine = engine })) m.start.clients (length m.published) m.rows → HasScan (Held c side) work (shown m) m.start.clients m.requests → IsMemory (record m { work = work; engine = engine })
+-- the holder goes on to something, and what is known_standing of the device changes
+hold_on : {m : Memory} {c side : ℕ} (work : Work) (engine : Engine) → IsMemory m → m.owner ≡ Held c side → SuitsWork work engine m.ahead → HasCause work m.noted m.count → HasFilled work (known_standing (record m { engine = engine })) m.start.clients (length m.published) m.rows → HasScan (Held c side) work (shown m) m.start.clients m.requests → IsMemory (record m { work = work; engine = engine })
 hold_on {m} {c} {side} work engine is holds suits cause filled scan = record {
   history = is.history;
   turn = is.turn;

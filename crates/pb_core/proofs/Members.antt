@@ -11,8 +11,8 @@ use Rattle.pb_layout.specs.Ready.{IsReady}
 use Rattle.pb_layout_laws.proofs.Histories.{state_after-append}
 use Rattle.pb_core.specs.DeviceParts.{with_log, IsSteady, IsWriting, IsInDoubtAfter, IsUnsettled, Fits}
 use Rattle.pb_core.specs.Laws.{members_in_doubt, members_in_round, members_by}
-use Rattle.pb_core.specs.Memory.{Engine, Resting, Recorded, Writing, Doubtful, with_round, coming}
-use Rattle.pb_core.specs.World.{Progress, NoCall, InCall, IsRoundPlan}
+use Rattle.pb_core.specs.Memory.{Engine, Resting, Recorded, Writing, Doubtful, with_round_ahead, coming}
+use Rattle.pb_core.specs.World.{CallProgress, NoCall, InCall, IsRoundPlan}
 use Rattle.pb_core.specs.WorldMoves.{last_calls}
 use Rattle.pb_core.proofs.Calls.{writing_ends, settling_goes_on, settling_ends}
 use Rattle.pb_core.proofs.Devices.{steady_at, first_calls, plan_cut, begun_prefix, staging_leaves, committing_leaves}
@@ -23,7 +23,7 @@ IsReadyWith tale members = IsReady tale.base tale.log members
 
 -- Where no call is under way
 
-ready_behind : {tale : Tale} {s : Standing} (rounds : History) (ahead : Option Round) → IsSteady tale s (rounds ++ coming ahead) → IsReadyWith tale (Some (with_round ahead (state_after s rounds)) ∷ [])
+ready_behind : {tale : Tale} {s : Standing} (rounds : History) (ahead : Option Round) → IsSteady tale s (rounds ++ coming ahead) → IsReadyWith tale (Some (with_round_ahead ahead (state_after s rounds)) ∷ [])
 ready_behind {tale} {s} rounds None steady =
     subst (λ (h : History). IsReadyWith tale (Some (state_after s h) ∷ [])) (append-nil rounds) steady.exit.ready
 ready_behind {tale} {s} rounds (Some round) steady =
@@ -53,7 +53,7 @@ members-from op left first more s round whole =
 
 ready_writing : {tale : Tale} {s : Standing} {rounds : History} {ahead : Option Round} {entry made : List LogOp} (left : List LogOp) (writing : IsWriting tale s rounds ahead entry made left) → IsReadyWith tale (members_in_round left (state_after s rounds) writing.round)
 ready_writing {tale} {s} {rounds} {ahead} {entry} {made} [] writing =
-    subst (λ (a : Option Round). IsReadyWith tale (Some (with_round a (state_after s rounds)) ∷ [])) writing.ahead_is (ready_behind rounds ahead (writing_ends writing))
+    subst (λ (a : Option Round). IsReadyWith tale (Some (with_round_ahead a (state_after s rounds)) ∷ [])) writing.ahead_is (ready_behind rounds ahead (writing_ends writing))
 ready_writing {tale} {s} {rounds} {ahead} {entry} {made} (op ∷ left) writing =
     go (two_cuts made (op ∷ left) (first_calls writing.planned) (last_calls at writing.round) (plan_cut writing.planned))
   where
@@ -84,7 +84,7 @@ ready_in_round : (tale : Tale) (s : Standing) (rounds : History) (ahead : Option
 ready_in_round tale s rounds ahead entry made left writing =
     subst (λ (a : Option Round). IsReadyWith tale (members_by Writing (InCall entry made left) a (state_after s rounds))) (sym writing.ahead_is) (ready_writing left writing)
 
-pub fits_ready : (tale : Tale) (s : Standing) (rounds : History) (ahead : Option Round) (engine : Engine) (progress : Progress) → Fits engine progress tale s rounds ahead → IsReadyWith tale (members_by engine progress ahead (state_after s rounds))
+pub fits_ready : (tale : Tale) (s : Standing) (rounds : History) (ahead : Option Round) (engine : Engine) (progress : CallProgress) → Fits engine progress tale s rounds ahead → IsReadyWith tale (members_by engine progress ahead (state_after s rounds))
 fits_ready tale s rounds ahead Resting NoCall fits = fits.exit.ready
 fits_ready tale s rounds ahead Resting (InCall entry made left) fits = absurd fits
 fits_ready tale s rounds ahead Recorded NoCall fits = ready_behind rounds ahead fits

@@ -3,7 +3,7 @@ use Rattle.std.proofs.Common.{ℕ, ◌<◌, List, ◌++◌, length}
 use Rattle.pb_object.specs.History.{Entry}
 use Rattle.pb_object.specs.Standing.{kept_list_of}
 use Rattle.pb_core.specs.Client.{Client}
-use Rattle.pb_core.specs.Memory.{Work, Memory, with_client, shown, known}
+use Rattle.pb_core.specs.Memory.{Work, Memory, with_client, shown, known_standing}
 use Rattle.pb_core.specs.MemoryParts.{IsClient, IsMemory, AreAnswered, Suits, HasCause, HasFilled, HasScan}
 use Rattle.pb_core.proofs.Basics.{at_each}
 
@@ -30,7 +30,7 @@ move_client {m} c b is client = record {
 }
 
 -- what the holder is at changes
-pub move_work : {m : Memory} (work : Work) → IsMemory m → Suits m.owner work m.engine m.ahead → HasCause work m.noted m.count → HasFilled work (known m) m.start.clients (length m.published) m.rows → HasScan m.owner work (shown m) m.start.clients m.requests → IsMemory (record m { work = work })
+pub move_work : {m : Memory} (work : Work) → IsMemory m → Suits m.owner work m.engine m.ahead → HasCause work m.noted m.count → HasFilled work (known_standing m) m.start.clients (length m.published) m.rows → HasScan m.owner work (shown m) m.start.clients m.requests → IsMemory (record m { work = work })
 move_work {m} work is suits cause filled scan = record {
   history = is.history;
   turn = is.turn;

@@ -19,7 +19,7 @@ use Rattle.pb_layout.specs.Exits.{IsEmptyRecord, AreEmptyRecords, records_of}
 use Rattle.pb_layout.specs.Header.{slot_count}
 use Rattle.pb_layout.specs.RegionOps.{format_ops}
 use Rattle.pb_layout.specs.Represents.{object_part, object_parts_by}
-use Rattle.pb_core.specs.Fresh.{fresh_memory, IsFresh}
+use Rattle.pb_core.specs.Fresh.{fresh_memory, IsFreshWorld}
 use Rattle.pb_core.specs.World.{NoCall, World}
 use Rattle.pb_core.proofs.OneRecord.{AreSame, same_state_lines}
 
@@ -78,7 +78,7 @@ records_one head Queue is a b c d left right same =
 
 -- All of it
 
-pub fresh_one : {head : Header} {a b : World} → IsFresh head a → IsFresh head b → a ≡ b
+pub fresh_one : {head : Header} {a b : World} → IsFreshWorld head a → IsFreshWorld head b → a ≡ b
 fresh_one {head} {a} {b} left right =
     left.is ∙ ((λ i. record { memory = fresh_memory head; tale = record { base = contents (zeros i) (format_ops head (records.0 i) (records.1 i)); log = [] }; progress = NoCall }) ∙ sym right.is)
   where

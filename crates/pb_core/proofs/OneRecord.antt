@@ -20,7 +20,7 @@ use Rattle.pb_object.specs.Queue.{tail_of}
 use Rattle.pb_object.specs.Standing.{Standing, side_count}
 use Rattle.pb_layout.specs.declared.header.Header.{Header}
 use Rattle.pb_layout.specs.Header.{record_length, slot_count, word}
-use Rattle.pb_layout.specs.NextRecord.{HasEntry, IsOfOther, IsNextOf}
+use Rattle.pb_layout.specs.NextRecord.{HasEntryInFront, IsOfOther, IsNextOf}
 use Rattle.pb_layout.specs.Record.{count_line_of, slot_line_at}
 use Rattle.pb_layout.specs.Represents.{header_for, object_part, object_parts, object_parts_by, with_record}
 use Rattle.pb_layout.proofs.Lines.{line_from_words}
@@ -174,19 +174,19 @@ part_at Queue head records (suc (suc side)) lines size here long all zero inside
 record HasOwn (client : ℕ) (entries : List Entry) : Type 0 where
   entry : Entry
   is : entry.client ≡ client
-  each : (before lines : List Line) → All (HasEntry before lines) entries → HasEntry before lines entry
+  each : (before lines : List Line) → All (HasEntryInFront before lines) entries → HasEntryInFront before lines entry
 
 own_or_none : (client : ℕ) (entries : List Entry) → HasOwn client entries ⊎ All (IsOfOther client) entries
 own_or_none client [] = inr (All-nil (IsOfOther client))
 own_or_none client (entry ∷ entries) = elim (cases_eq entry.client client) [
-  | inl same ↦ inl (record { entry = entry; is = same; each = λ before lines all. All-head (HasEntry before lines) entry entries all })
+  | inl same ↦ inl (record { entry = entry; is = same; each = λ before lines all. All-head (HasEntryInFront before lines) entry entries all })
   | inr apart ↦ elim (own_or_none client entries) [
-    | inl own ↦ inl (record { entry = own.entry; is = own.is; each = λ before lines all. own.each before lines (All-tail (HasEntry before lines) entry entries all) })
+    | inl own ↦ inl (record { entry = own.entry; is = own.is; each = λ before lines all. own.each before lines (All-tail (HasEntryInFront before lines) entry entries all) })
     | inr none ↦ inr (All-cons (IsOfOther client) entry entries apart none)
   ]
 ]
 
-same_slot : {before xs ys : List Line} (entry : Entry) (client slot : ℕ) → HasEntry before xs entry → HasEntry before ys entry → entry.client ≡ client → slot < KEPT_REQUESTS → slot_line_at xs client slot ≡ slot_line_at ys client slot
+same_slot : {before xs ys : List Line} (entry : Entry) (client slot : ℕ) → HasEntryInFront before xs entry → HasEntryInFront before ys entry → entry.client ≡ client → slot < KEPT_REQUESTS → slot_line_at xs client slot ≡ slot_line_at ys client slot
 same_slot {before} {xs} {ys} entry client zero left right is below =
     ap (λ (c : ℕ). slot_line_at xs c 0) (sym is) ∙ (left.newest ∙ (sym right.newest ∙ ap (λ (c : ℕ). slot_line_at ys c 0) is))
 same_slot {before} {xs} {ys} entry client (suc slot) left right is below =

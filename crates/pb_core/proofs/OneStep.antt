@@ -9,7 +9,7 @@ use Rattle.pb_object.specs.Standing.{newest_of}
 use Rattle.pb_events.specs.declared.event.Stepped.{Stepped}
 use Rattle.pb_events.specs.declared.event.Stepped.TheVariants.{Went, Done, Busy, Fault, Impossible}
 use Rattle.pb_core.specs.Client.{Stage, Idle, Storing, Looking, LoadsNumber, LoadsCode, LoadsValue, LoadsExtra, Confirming, Lacking, Taking, Holding, ask_word, row_word}
-use Rattle.pb_core.specs.Memory.{Owner, Free, Held, Closed, Part, AtNumber, AtCode, AtFirst, AtSecond, AtThird, Work, NoWork, Settling, Scanning, Calling, Filling, Noting, GivingUp, Engine, Resting, Recorded, Writing, Doubtful, Memory, with_client, clients_of, known, side_of, round_of_turn}
+use Rattle.pb_core.specs.Memory.{Owner, Free, Held, Closed, Part, AtNumber, AtCode, AtFirst, AtSecond, AtThird, Work, NoWork, Settling, Scanning, Calling, Filling, Noting, GivingUp, Engine, Resting, Recorded, Writing, Doubtful, Memory, with_client, clients_of, known_standing, side_of_operation, round_of_turn}
 use Rattle.pb_core.specs.MemoryParts.{IsMemory}
 use Rattle.pb_core.specs.WordMoves.{steps_to, finds_turn, with_answer, with_published, with_request_word, with_row_word, next_row, own_row, due_number, scanned, WordMove, storing, announcing, looking, matching, lacking_held, lacking_free, loading_code, loading_value, loading_extra, confirming, finding_new, finding_held, taking_sure, taking_unsure, missing, passing_over, meeting, scanning_code, scanning_first, scanning_second, scanning_own, scanning_other, filling, publishing_own, publishing_others, noting, giving_up}
 use Rattle.pb_core.proofs.Causes.{holder_at}
@@ -34,10 +34,10 @@ confirms m c turn reply =
     if round_of_turn m.turn == round_of_turn turn then (with_answer c reply (round_of_turn m.turn) m, Done (m.book c).ask reply) else (finds_turn c Looking m.turn m, Busy (m.book c).ask turn m.turn)
 
 abbrev pub takes_by : Engine → Memory → ℕ → ℕ → Made
-takes_by Resting m c turn = (record (steps_to c Holding m) { turn = turn + 1; owner = Held c (side_of (m.book c).ask.op); work = Scanning 0 AtNumber [] }, Went)
+takes_by Resting m c turn = (record (steps_to c Holding m) { turn = turn + 1; owner = Held c (side_of_operation (m.book c).ask.op); work = Scanning 0 AtNumber [] }, Went)
 takes_by Recorded m c turn = (m, Impossible)
 takes_by Writing m c turn = (m, Impossible)
-takes_by Doubtful m c turn = (record (steps_to c Holding m) { turn = turn + 1; owner = Held c (side_of (m.book c).ask.op); work = Settling }, Went)
+takes_by Doubtful m c turn = (record (steps_to c Holding m) { turn = turn + 1; owner = Held c (side_of_operation (m.book c).ask.op); work = Settling }, Went)
 
 abbrev pub takes : Memory → ℕ → ℕ → Made
 takes m c turn =
@@ -55,15 +55,15 @@ scans m d (AtCode number) seen = (record m { work = Scanning d (AtFirst number (
 scans m d (AtFirst number code) seen = (record m { work = Scanning d (AtSecond number code (m.requests d 2)) seen }, Went)
 scans m d (AtSecond number code a) seen = (record m { work = Scanning d (AtThird number code a (m.requests d 3)) seen }, Went)
 scans m d (AtThird number code a b) seen =
-    if side_of (scanned m d number code a b).op == held_side m.owner then (record m { work = Scanning (suc d) AtNumber (seen ++ scanned m d number code a b ∷ []) }, Went) else (record m { work = Scanning (suc d) AtNumber seen }, Went)
+    if side_of_operation (scanned m d number code a b).op == held_side m.owner then (record m { work = Scanning (suc d) AtNumber (seen ++ scanned m d number code a b ∷ []) }, Went) else (record m { work = Scanning (suc d) AtNumber seen }, Went)
 
 abbrev pub publishes : Option Round → Memory → ℕ → Made
 publishes None m c = (m, Impossible)
 publishes (Some round) m c =
-    if (newest_of (known m) c).number == (m.book c).ask.number then (with_answer c (newest_of (known m) c).reply (suc (length m.published)) (with_published round m), Done (m.book c).ask (newest_of (known m) c).reply) else (with_client c (record (m.book c) { stage = Looking; front = suc (length m.published) }) (with_published round m), Busy (m.book c).ask (m.turn - 1) (m.turn + 1))
+    if (newest_of (known_standing m) c).number == (m.book c).ask.number then (with_answer c (newest_of (known_standing m) c).reply (suc (length m.published)) (with_published round m), Done (m.book c).ask (newest_of (known_standing m) c).reply) else (with_client c (record (m.book c) { stage = Looking; front = suc (length m.published) }) (with_published round m), Busy (m.book c).ask (m.turn - 1) (m.turn + 1))
 
 abbrev pub stores_row : Memory → ℕ → ℕ → Made
-stores_row m d place = (record m { rows = with_row_word (next_row m) d place (row_word (newest_of (known m) d) place) m.rows; work = Filling (suc (4 * d + place)) }, Went)
+stores_row m d place = (record m { rows = with_row_word (next_row m) d place (row_word (newest_of (known_standing m) d) place) m.rows; work = Filling (suc (4 * d + place)) }, Went)
 
 abbrev pub fills : Memory → ℕ → ℕ → Made
 fills m c count = if count == 4 * clients_of m then publishes m.ahead m c else stores_row m (count / 4) (count % 4)
@@ -140,10 +140,10 @@ word_makes {old} {new} {c} is there (scanning_first move) = holds_at old c (Scan
 word_makes {old} {new} {c} is there (scanning_second move) = holds_at old c (Scanning move.d (AtSecond move.number move.code move.a) move.seen) _ _ is there move.holds move.is move.says move.at refl
 word_makes {old} {new} {c} is there (scanning_own move) =
     holds_at old c (Scanning move.d (AtThird move.number move.code move.a move.b) move.seen) _ _ is there move.holds move.is move.says move.at
-    (yes_at (side_of (scanned old move.d move.number move.code move.a move.b).op) (held_side old.owner) _ _ (move.same ∙ sym (ap held_side move.holds)))
+    (yes_at (side_of_operation (scanned old move.d move.number move.code move.a move.b).op) (held_side old.owner) _ _ (move.same ∙ sym (ap held_side move.holds)))
 word_makes {old} {new} {c} is there (scanning_other move) =
     holds_at old c (Scanning move.d (AtThird move.number move.code move.a move.b) move.seen) _ _ is there move.holds move.is move.says move.at
-    (no_at (side_of (scanned old move.d move.number move.code move.a move.b).op) (held_side old.owner) _ _ (λ e. move.other (e ∙ ap held_side move.holds)))
+    (no_at (side_of_operation (scanned old move.d move.number move.code move.a move.b).op) (held_side old.owner) _ _ (λ e. move.other (e ∙ ap held_side move.holds)))
 word_makes {old} {new} {c} is there (filling move) =
     let client : (4 * move.d + move.place) / 4 ≡ move.d = omega (arith, move.few) in
     let place : (4 * move.d + move.place) % 4 ≡ move.place = omega (arith, move.few) in
@@ -151,9 +151,9 @@ word_makes {old} {new} {c} is there (filling move) =
     (no_at (4 * move.d + move.place) (4 * clients_of old) _ _ (λ e. omega (arith, e, move.there, move.few)) ∙ (λ i. stores_row old (client i) (place i)))
 word_makes {old} {new} {c} is there (publishing_own move) =
     holds_at old c (Filling (4 * clients_of old)) _ _ is there move.holds move.is move.says move.at
-    (yes_at (4 * clients_of old) (4 * clients_of old) _ _ refl ∙ (ap (λ (a : Option Round). publishes a old c) move.ahead ∙ yes_at (newest_of (known old) c).number (old.book c).ask.number _ _ move.own))
+    (yes_at (4 * clients_of old) (4 * clients_of old) _ _ refl ∙ (ap (λ (a : Option Round). publishes a old c) move.ahead ∙ yes_at (newest_of (known_standing old) c).number (old.book c).ask.number _ _ move.own))
 word_makes {old} {new} {c} is there (publishing_others move) =
     holds_at old c (Filling (4 * clients_of old)) _ _ is there move.holds move.is move.says move.at
-    (yes_at (4 * clients_of old) (4 * clients_of old) _ _ refl ∙ (ap (λ (a : Option Round). publishes a old c) move.ahead ∙ no_at (newest_of (known old) c).number (old.book c).ask.number _ _ move.other))
+    (yes_at (4 * clients_of old) (4 * clients_of old) _ _ refl ∙ (ap (λ (a : Option Round). publishes a old c) move.ahead ∙ no_at (newest_of (known_standing old) c).number (old.book c).ask.number _ _ move.other))
 word_makes {old} {new} {c} is there (noting move) = holds_at old c (Noting move.from move.to) _ _ is there move.holds move.is move.says move.at refl
 word_makes {old} {new} {c} is there (giving_up move) = holds_at old c (GivingUp move.from move.to) _ _ is there move.holds move.is move.says move.at refl

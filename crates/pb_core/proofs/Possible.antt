@@ -18,11 +18,11 @@ use Rattle.pb_events.specs.declared.event.Stepped.TheVariants.{Went}
 use Rattle.pb_core.specs.Client.{Stage, Idle, Storing, Looking, LoadsNumber, LoadsCode, LoadsValue, LoadsExtra, Confirming, Lacking, Taking, Holding, is_idle, is_holding}
 use Rattle.pb_core.specs.DeviceParts.{IsWorld}
 use Rattle.pb_core.specs.HolderMoves.{round_by}
-use Rattle.pb_core.specs.Memory.{Owner, Free, Held, Closed, Part, AtNumber, AtCode, AtFirst, AtSecond, AtThird, Work, NoWork, Settling, Scanning, Calling, Filling, Noting, GivingUp, Resting, Recorded, Writing, Memory, clients_of, known, side_of, round_of_turn}
+use Rattle.pb_core.specs.Memory.{Owner, Free, Held, Closed, Part, AtNumber, AtCode, AtFirst, AtSecond, AtThird, Work, NoWork, Settling, Scanning, Calling, Filling, Noting, GivingUp, Resting, Recorded, Writing, Memory, clients_of, known_standing, side_of_operation, round_of_turn}
 use Rattle.pb_core.specs.MemoryParts.{IsMemory}
 use Rattle.pb_core.specs.Possible.{IsPossible, MayStep, HasPlan}
-use Rattle.pb_core.specs.WordMoves.{IsRunning, own_row, due_number, scanned, WordMove, storing, announcing, looking, matching, lacking_held, lacking_free, loading_code, loading_value, loading_extra, confirming, finding_new, finding_held, taking_sure, taking_unsure, missing, passing_over, meeting, scanning_code, scanning_first, scanning_second, scanning_own, scanning_other, filling, publishing_own, publishing_others, noting, giving_up}
-use Rattle.pb_core.specs.World.{Progress, NoCall, InCall, World, cell_ops, IsRoundPlan}
+use Rattle.pb_core.specs.WordMoves.{IsNotReopening, own_row, due_number, scanned, WordMove, storing, announcing, looking, matching, lacking_held, lacking_free, loading_code, loading_value, loading_extra, confirming, finding_new, finding_held, taking_sure, taking_unsure, missing, passing_over, meeting, scanning_code, scanning_first, scanning_second, scanning_own, scanning_other, filling, publishing_own, publishing_others, noting, giving_up}
+use Rattle.pb_core.specs.World.{CallProgress, NoCall, InCall, World, ops_of_puts, IsRoundPlan}
 use Rattle.pb_core.specs.WorldMoves.{Silent, begins_calls, ends_calls, begins_settling, ends_settling_none, ends_settling_round, Silents, settling_plan, last_calls}
 use Rattle.pb_core.proofs.Publishing.{the_filled}
 use Rattle.pb_core.proofs.Scans.{the_scan}
@@ -49,7 +49,7 @@ odd_or_even turn = elim (cases_eq (turn % 2) 1) [
 ]
 
 -- a client that isn't idle and doesn't hold the turn
-waiting_moves : {m : Memory} {c : ℕ} (stage : Stage) → IsMemory m → IsRunning m.owner → c < m.start.clients → (m.book c).stage ≡ stage → is_idle stage ≡ false → is_holding stage ≡ false → CanMove m c
+waiting_moves : {m : Memory} {c : ℕ} (stage : Stage) → IsMemory m → IsNotReopening m.owner → c < m.start.clients → (m.book c).stage ≡ stage → is_idle stage ≡ false → is_holding stage ≡ false → CanMove m c
 waiting_moves Idle is running there at busy free = absurd (true≢false busy)
 waiting_moves {m} {c} (Storing count) is running there at busy free = go (cases_lt count 4)
   where
@@ -120,7 +120,7 @@ stores_row {m} {c} {side} count holds at below =
 -- A step
 
 -- moves that nobody sees, and then one on a word
-steps_word : {w : World} (middle : World) {c : ℕ} (count : ℕ) → Silents count w middle → IsRunning middle.memory.owner → c < clients_of middle.memory → CanMove middle.memory c → IsPossible w (Step c)
+steps_word : {w : World} (middle : World) {c : ℕ} (count : ℕ) → Silents count w middle → IsNotReopening middle.memory.owner → c < clients_of middle.memory → CanMove middle.memory c → IsPossible w (Step c)
 steps_word {w} middle {c} count silents running there can = record {
   new = record middle { memory = can.new };
   answer = can.answer;
@@ -135,8 +135,8 @@ calls_device {w} middle {c} {side} count entry made op left silents there holds 
   next = record { silent = count; middle = middle; silents = silents; move = inr (record { there = there; side = side; holds = holds; entry = entry; made = made; op = op; left = left; at = at; is = refl; says = refl }) };
 }
 
-held_runs : {owner : Owner} (c side : ℕ) → owner ≡ Held c side → IsRunning owner
-held_runs c side holds = subst IsRunning (sym holds) tt
+held_runs : {owner : Owner} (c side : ℕ) → owner ≡ Held c side → IsNotReopening owner
+held_runs c side holds = subst IsNotReopening (sym holds) tt
 
 -- a list with an element somewhere has a first one
 first_of_all : {X : Type 0} (a : List X) (x : X) (b : List X) → (first : X) × (rest : List X) × (a ++ x ∷ b ≡ first ∷ rest)
@@ -173,7 +173,7 @@ settling_steps {w} {c} {side} there holds at = go w.progress refl
     ends entry made progress (Some round) some =
         steps_word (record { memory = filled; tale = w.tale; progress = NoCall }) 1 (one_silent (ends_settling_round (record { client = c; there = there; next = filled; move = record { side = side; holds = holds; round = round; at = at; some = some; is = refl }; entry = entry; made = made; at = progress; is = refl }))) (held_runs c side holds) there (stores_row 0 holds refl (omega (arith, there)))
 
-    go : (progress : Progress) → w.progress ≡ progress → IsPossible w (Step c)
+    go : (progress : CallProgress) → w.progress ≡ progress → IsPossible w (Step c)
     go NoCall idle =
         calls_device begun 1 w.tale.log [] (Word 0 0 MAGIC) (drop 1 (settling_plan w.memory)) (one_silent (begins_settling (record { client = c; side = side; holds = holds; at = at; idle = idle; is = refl }))) there holds refl
     go (InCall entry made []) progress = ends entry made progress w.memory.ahead refl
@@ -186,7 +186,7 @@ calling_steps {w} {c} {side} is there holds at = go w.progress refl
     filled : Memory
     filled = record (w.memory) { work = Filling 0; engine = Recorded }
 
-    go : (progress : Progress) → w.progress ≡ progress → IsPossible w (Step c)
+    go : (progress : CallProgress) → w.progress ≡ progress → IsPossible w (Step c)
     go NoCall idle =
         absurd (fits_in w Writing NoCall idle (work_suits Calling is.memory_is holds at).0 is)
     go (InCall entry made []) progress =
@@ -197,7 +197,7 @@ calling_steps {w} {c} {side} is there holds at = go w.progress refl
 pub plan_first : {tale : Tale} {t : Standing} {round : Round} {plan : List LogOp} → IsRoundPlan tale t round plan → (first : LogOp) × (rest : List LogOp) × (plan ≡ first ∷ rest)
 plan_first {tale} {t} {round} {plan} planned =
     let head = header_for t in
-    let cells = cell_ops head planned.puts in
+    let cells = ops_of_puts head planned.puts in
     let last = last_calls t round in
     let stage = stage_by planned.writes head round.side (rounds_of t round.side) in
     let first = first_of_all (cells ++ stage) (Word (1 + round.side) 0 (rounds_of t round.side + 1)) (drop 1 last) in
@@ -210,12 +210,12 @@ begun_steps {w} {c} {side} seen is plans there holds at = go w.progress refl
     resting = (work_suits (Scanning (clients_of w.memory) AtNumber seen) is.memory_is holds at).0
 
     round : Round
-    round = round_by side (known w.memory) seen
+    round = round_by side (known_standing w.memory) seen
 
     next : Memory
     next = record (w.memory) { ahead = Some round; work = Calling; engine = Writing }
 
-    go : (progress : Progress) → w.progress ≡ progress → IsPossible w (Step c)
+    go : (progress : CallProgress) → w.progress ≡ progress → IsPossible w (Step c)
     go NoCall idle =
         let plan = plans c side seen holds at in
         let first = plan_first plan.1 in
@@ -243,9 +243,9 @@ scanning_steps {w} {c} {side} d (AtFirst number code) seen is plans there holds 
 scanning_steps {w} {c} {side} d (AtSecond number code a) seen is plans there holds at =
     now_moves there holds (moves_by (scanning_second (record { side = side; holds = holds; d = d; seen = seen; number = number; code = code; a = a; at = at; is = refl; says = refl })))
 scanning_steps {w} {c} {side} d (AtThird number code a b) seen is plans there holds at =
-    now_moves there holds (go (cases_eq (side_of (scanned w.memory d number code a b).op) side))
+    now_moves there holds (go (cases_eq (side_of_operation (scanned w.memory d number code a b).op) side))
   where
-    go : (side_of (scanned w.memory d number code a b).op ≡ side) ⊎ (side_of (scanned w.memory d number code a b).op ≢ side) → CanMove w.memory c
+    go : (side_of_operation (scanned w.memory d number code a b).op ≡ side) ⊎ (side_of_operation (scanned w.memory d number code a b).op ≢ side) → CanMove w.memory c
     go (inl same) =
         moves_by (scanning_own (record { side = side; holds = holds; d = d; seen = seen; number = number; code = code; a = a; b = b; at = at; same = same; is = refl; says = refl }))
     go (inr other) =
@@ -255,9 +255,9 @@ scanning_steps {w} {c} {side} d (AtThird number code a b) seen is plans there ho
 publishes : {m : Memory} {c side : ℕ} → m.owner ≡ Held c side → m.work ≡ Filling (4 * clients_of m) → (ahead : Option Round) → m.ahead ≡ ahead → IsSome ahead → CanMove m c
 publishes {m} {c} {side} holds at None none some = absurd (false≢true some)
 publishes {m} {c} {side} holds at (Some round) ahead some =
-    go (cases_eq (newest_of (known m) c).number (m.book c).ask.number)
+    go (cases_eq (newest_of (known_standing m) c).number (m.book c).ask.number)
   where
-    go : ((newest_of (known m) c).number ≡ (m.book c).ask.number) ⊎ ((newest_of (known m) c).number ≢ (m.book c).ask.number) → CanMove m c
+    go : ((newest_of (known_standing m) c).number ≡ (m.book c).ask.number) ⊎ ((newest_of (known_standing m) c).number ≢ (m.book c).ask.number) → CanMove m c
     go (inl own) =
         moves_by (publishing_own (record { side = side; holds = holds; round = round; at = at; ahead = ahead; own = own; is = refl; says = refl }))
     go (inr other) =
@@ -285,7 +285,7 @@ holder_steps {w} {c} {side} (GivingUp from to) is plans there holds at =
 
 -- Every client that isn't idle can step
 
-running : {w : World} {c : ℕ} → IsWorld w → c < clients_of w.memory → is_idle (w.memory.book c).stage ≡ false → (owner : Owner) → w.memory.owner ≡ owner → IsRunning owner
+running : {w : World} {c : ℕ} → IsWorld w → c < clients_of w.memory → is_idle (w.memory.book c).stage ≡ false → (owner : Owner) → w.memory.owner ≡ owner → IsNotReopening owner
 running is there busy Free at = tt
 running is there busy (Held h side) at = tt
 running {w} {c} is there busy Closed at = false≢true (sym busy ∙ (is.memory_is.clients c there).rests at)
@@ -293,7 +293,7 @@ running {w} {c} is there busy Closed at = false≢true (sym busy ∙ (is.memory_
 pub can_step : {w : World} {c : ℕ} → IsWorld w → HasPlan w → MayStep w c → IsPossible w (Step c)
 can_step {w} {c} is plans may = go (cases_Bool (is_holding (w.memory.book c).stage))
   where
-    runs : IsRunning w.memory.owner
+    runs : IsNotReopening w.memory.owner
     runs = running is may.there may.busy w.memory.owner refl
 
     go : (is_holding (w.memory.book c).stage ≡ true) ⊎ (is_holding (w.memory.book c).stage ≡ false) → IsPossible w (Step c)

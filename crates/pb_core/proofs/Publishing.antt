@@ -9,7 +9,7 @@ use Rattle.pb_object.specs.History.{Entry, Round, History, kept_by, state_after,
 use Rattle.pb_object.specs.Standing.{Standing, keep, kept_list_of, newest, newest_of}
 use Rattle.pb_events.specs.declared.event.Stepped.{Stepped}
 use Rattle.pb_core.specs.Client.{Stage, Idle, Storing, Looking, LoadsNumber, LoadsCode, LoadsValue, LoadsExtra, Confirming, Lacking, Taking, Holding, is_announced, is_holding, Client, row_word, entry_by}
-use Rattle.pb_core.specs.Memory.{Owner, Free, Held, Work, Filling, Recorded, Memory, with_at, with_client, clients_of, shown, known, known_by, side_of}
+use Rattle.pb_core.specs.Memory.{Owner, Free, Held, Work, Filling, Recorded, Memory, with_at, with_client, clients_of, shown, known_standing, known_by, side_of_operation}
 use Rattle.pb_core.specs.MemoryParts.{IsOneOf, IsClient, IsServed, HasEntries, HasFound, HasRead, IsFilled, HasFilled, HasScan, HasRows, IsMemory, AreAnswered, held_count, entries_with, own_entries, SuitsWork}
 use Rattle.pb_core.specs.WordMoves.{go_to, answered, with_published, with_answer, with_row_word, StoresRow, PublishesOwn, PublishesOthers}
 use Rattle.pb_core.proofs.Basics.{with_at-same, with_at-other, with_at-twice}
@@ -22,10 +22,10 @@ use Rattle.pb_core.proofs.Waiting.{looking_waits, waits_on, served_by_number, an
 
 -- Filling
 
--- the words that are stored, where what the holder is at is known
-pub the_filled : {m : Memory} (count : ℕ) → IsMemory m → m.work ≡ Filling count → IsFilled (known m) m.start.clients (length m.published) count m.rows
+-- the words that are stored, where what the holder is at is known_standing
+pub the_filled : {m : Memory} (count : ℕ) → IsMemory m → m.work ≡ Filling count → IsFilled (known_standing m) m.start.clients (length m.published) count m.rows
 the_filled {m} count is at =
-    subst (λ (w : Work). HasFilled w (known m) m.start.clients (length m.published) m.rows) at is.filled
+    subst (λ (w : Work). HasFilled w (known_standing m) m.start.clients (length m.published) m.rows) at is.filled
 
 other_row : (rounds : ℕ) → rounds % 2 ≢ suc rounds % 2
 other_row rounds e = omega (arith, e)
@@ -67,17 +67,17 @@ keeps-filling {old} {new} {c} is move = subst IsMemory (sym move.is) (record {
     row = suc (length old.published) % 2
 
     word : ℕ
-    word = row_word (newest_of (known old) move.d) move.place
+    word = row_word (newest_of (known_standing old) move.d) move.place
 
-    before : IsFilled (known old) old.start.clients (length old.published) (4 * move.d + move.place) old.rows
+    before : IsFilled (known_standing old) old.start.clients (length old.published) (4 * move.d + move.place) old.rows
     before = the_filled (4 * move.d + move.place) is move.at
 
-    stored : (client place : ℕ) → place < 4 → 4 * client + place < suc (4 * move.d + move.place) → (client ≡ move.d) ⊎ (client ≢ move.d) → (place ≡ move.place) ⊎ (place ≢ move.place) → with_row_word row move.d move.place word old.rows row client place ≡ row_word (newest_of (known old) client) place
+    stored : (client place : ℕ) → place < 4 → 4 * client + place < suc (4 * move.d + move.place) → (client ≡ move.d) ⊎ (client ≢ move.d) → (place ≡ move.place) ⊎ (place ≢ move.place) → with_row_word row move.d move.place word old.rows row client place ≡ row_word (newest_of (known_standing old) client) place
     stored client place few below (inl same) (inl here) =
-        subst (λ (d : ℕ). with_row_word row move.d move.place word old.rows row d place ≡ row_word (newest_of (known old) d) place) (sym same) (subst (λ (p : ℕ). with_row_word row move.d move.place word old.rows row move.d p ≡ row_word (newest_of (known old) move.d) p) (sym here) (row_with-here row move.d move.place word old.rows))
+        subst (λ (d : ℕ). with_row_word row move.d move.place word old.rows row d place ≡ row_word (newest_of (known_standing old) d) place) (sym same) (subst (λ (p : ℕ). with_row_word row move.d move.place word old.rows row move.d p ≡ row_word (newest_of (known_standing old) move.d) p) (sym here) (row_with-here row move.d move.place word old.rows))
     stored client place few below (inl same) (inr apart) =
         let earlier : 4 * move.d + place < 4 * move.d + move.place = omega (arith, same, below, apart) in
-        subst (λ (d : ℕ). with_row_word row move.d move.place word old.rows row d place ≡ row_word (newest_of (known old) d) place) (sym same) (row_with-place row move.d move.place word old.rows place apart ∙ before.stored move.d place few earlier)
+        subst (λ (d : ℕ). with_row_word row move.d move.place word old.rows row d place ≡ row_word (newest_of (known_standing old) d) place) (sym same) (row_with-place row move.d move.place word old.rows place apart ∙ before.stored move.d place few earlier)
     stored client place few below (inr apart) here =
         row_with-client row move.d move.place word old.rows client place apart ∙ before.stored client place few (omega (arith, below, apart, few, move.few))
 
@@ -148,7 +148,7 @@ publishes_client {kind} {list} {next} {published} {round} {words} {c} {b} kept i
   where
     free : is_holding b.stage ≡ false
     free = elim (cases_Bool (is_holding b.stage)) [
-      | inl e ↦ absurd (free≢held c (side_of b.ask.op) (is.holding e))
+      | inl e ↦ absurd (free≢held c (side_of_operation b.ask.op) (is.holding e))
       | inr e ↦ e
     ]
 
@@ -165,8 +165,8 @@ published_kept {m} round is ahead d there =
     ap (λ (s : Standing). kept_list_of s d) (state_after-push m.start m.past m.published round)
     ∙ kept-round (shown m) round d (omega (arith, there, is.history.keeps, (shape_after m.start (m.past ++ m.published)).lists))
 
--- the standing that is known for sure is the one that is shown then
-published_known : (m : Memory) (round : Round) → m.engine ≡ Recorded → m.ahead ≡ Some round → known m ≡ shown (with_published round m)
+-- the standing that is known_standing for sure is the one that is shown then
+published_known : (m : Memory) (round : Round) → m.engine ≡ Recorded → m.ahead ≡ Some round → known_standing m ≡ shown (with_published round m)
 published_known m round engine ahead =
     (λ i. known_by (engine i) (ahead i) (shown m)) ∙ sym (state_after-push m.start m.past m.published round)
 
@@ -200,7 +200,7 @@ publish {m} {c} {side} round is there holds at ahead = record {
     clients d inside =
         publishes_client (published_kept round is ahead d inside) (subst (λ (a : Option Round). IsClient m.start.kind (kept_list_of (shown m) d) m.published a Free (m.requests d) d (with_at c (go_to Looking (m.book c)) m.book d)) ahead (all_let_go is there holds d inside))
 
-    filled : IsFilled (known m) m.start.clients (length m.published) (4 * m.start.clients) m.rows
+    filled : IsFilled (known_standing m) m.start.clients (length m.published) (4 * m.start.clients) m.rows
     filled = the_filled (4 * m.start.clients) is at
 
     rows : HasRows (shown (with_published round m)) m.start.clients (length (m.published ++ round ∷ [])) m.rows
@@ -240,7 +240,7 @@ keeps-publishing_own {old} {new} {c} is there move =
     b = old.book c
 
     Answered : ℕ → Type 0
-    Answered front = IsMemory (with_answer c (newest_of (known old) c).reply front (with_published move.round old))
+    Answered front = IsMemory (with_answer c (newest_of (known_standing old) c).reply front (with_published move.round old))
 
     after : IsMemory (let_go c move.round old)
     after = publish move.round is there move.holds move.at move.ahead
@@ -248,7 +248,7 @@ keeps-publishing_own {old} {new} {c} is there move =
     own : ClientOf (with_published move.round old) c (go_to Looking b)
     own = own_after old c move.round after there
 
-    known_is : known old ≡ shown (with_published move.round old)
+    known_is : known_standing old ≡ shown (with_published move.round old)
     known_is =
         published_known old move.round (work_suits (Filling (4 * clients_of old)) is move.holds move.at).0 move.ahead
 
@@ -256,7 +256,7 @@ keeps-publishing_own {old} {new} {c} is there move =
     served =
         served_by_number own refl (ap (λ (s : Standing). (newest_of s c).number) (sym known_is) ∙ move.own)
 
-    reply : served.reply ≡ (newest_of (known old) c).reply
+    reply : served.reply ≡ (newest_of (known_standing old) c).reply
     reply =
         sym (ap (λ (l : List Kept). (newest l).reply) served.kept) ∙ ap (λ (s : Standing). (newest_of s c).reply) (sym known_is)
 

@@ -29,12 +29,12 @@ use Rattle.pb_events.specs.declared.event.Event.TheVariants.{Ask as AskEvent, St
 use Rattle.pb_events.specs.declared.event.Stepped.{Stepped}
 use Rattle.pb_events.specs.declared.event.Stepped.TheVariants.{Went}
 use Rattle.pb_core.specs.DeviceParts.{IsSteady, IsInDoubtAfter, IsUnsettled, IsWriting, Fits, opened_state, IsWorld}
-use Rattle.pb_core.specs.Fresh.{IsFresh}
+use Rattle.pb_core.specs.Fresh.{IsFreshWorld}
 use Rattle.pb_core.specs.Laws.{done_of, all_done, history, IsKeptBy, IsOneHistory, IsToldByLog, members_by}
-use Rattle.pb_core.specs.Memory.{Engine, Resting, Recorded, Writing, Doubtful, Memory, coming, opened}
+use Rattle.pb_core.specs.Memory.{Engine, Resting, Recorded, Writing, Doubtful, Memory, coming, memory_at_opening}
 use Rattle.pb_core.specs.MemoryParts.{AreAnswered}
 use Rattle.pb_core.specs.WordMoves.{WordMove, storing, announcing, looking, matching, lacking_held, lacking_free, loading_code, loading_value, loading_extra, confirming, finding_new, finding_held, taking_sure, taking_unsure, missing, passing_over, meeting, scanning_code, scanning_first, scanning_second, scanning_own, scanning_other, filling, publishing_own, publishing_others, noting, giving_up}
-use Rattle.pb_core.specs.World.{Progress, NoCall, InCall, World}
+use Rattle.pb_core.specs.World.{CallProgress, NoCall, InCall, World}
 use Rattle.pb_core.specs.WorldMoves.{Silent, begins_calls, ends_calls, begins_settling, ends_settling_none, ends_settling_round, opens, Silents, all_rounds, Crashes, Moves, Next, Run}
 use Rattle.pb_core.proofs.Calls.{HasReached, before_it, in_doubt, behind_it, writing_reached, settling_reached}
 use Rattle.pb_core.proofs.Crashes.{IsLeft, without, with_it, left_of, all_legal, opened_memory, new_steady}
@@ -45,11 +45,11 @@ use Rattle.pb_core.proofs.Worlds.{keeps-event, opens_memory}
 
 -- The first world
 
-fresh-represents : {head : Header} {w : World} (fresh : IsFresh head w) → Represents (contents fresh.zeros (format_ops head fresh.first fresh.second)) (empty_for head)
+fresh-represents : {head : Header} {w : World} (fresh : IsFreshWorld head w) → Represents (contents fresh.zeros (format_ops head fresh.first fresh.second)) (empty_for head)
 fresh-represents {head} fresh =
     only_member (contents fresh.zeros (format_ops head fresh.first fresh.second)) (empty_for head) (makes_a_region fresh.zeros [] head fresh.first fresh.second fresh.valid fresh.long fresh.records (fresh_is_ready fresh.zeros fresh.all_zero)).ready.holds
 
-pub fresh_is_world : {head : Header} {w : World} → IsFresh head w → IsWorld w
+pub fresh_is_world : {head : Header} {w : World} → IsFreshWorld head w → IsWorld w
 fresh_is_world {head} {w} fresh =
     let stands = fresh-represents fresh in
     subst IsWorld (sym fresh.is) (record {
@@ -279,7 +279,7 @@ run_starts old [] answers new (none, same) = ap start_of same
 run_starts old (event ∷ events) answers new (middle, answer, rest, all, next, run) =
     run_starts middle events rest new run ∙ (starts-moves next.middle event middle answer next.move ∙ starts-silents next.silent old next.middle next.silents)
 
-pub one_history : (head : Header) (first last : World) (events : List Event) (answers : List Stepped) → IsFresh head first → Run first events answers last → IsOneHistory head last answers
+pub one_history : (head : Header) (first last : World) (events : List Event) (answers : List Stepped) → IsFreshWorld head first → Run first events answers last → IsOneHistory head last answers
 one_history head first last events answers fresh run = record {
   start = run_starts first events answers last run ∙ ap start_of fresh.is;
   legal = is.memory_is.history.legal;
@@ -367,7 +367,7 @@ tells_writing {w} writing = go (writing_reached writing)
     go (behind_it steady) =
         tells_steady steady (inr (ap (λ (a : Option Round). w.memory.published ++ coming a) (sym writing.ahead_is)))
 
-tells_fits : (w : World) (engine : Engine) (progress : Progress) → Fits engine progress w.tale (opened_state w.memory) w.memory.published w.memory.ahead → Tells w
+tells_fits : (w : World) (engine : Engine) (progress : CallProgress) → Fits engine progress w.tale (opened_state w.memory) w.memory.published w.memory.ahead → Tells w
 tells_fits w Resting NoCall fits = tells_steady fits (inl refl)
 tells_fits w Resting (InCall entry made calls) fits = absurd fits
 tells_fits w Recorded NoCall fits = tells_steady fits (inr refl)
@@ -431,4 +431,4 @@ can_crash {w} is cut pick low high = (
     kept = kept_rounds w image is (record { cut = cut; low = low; high = high; left = IsCrashImageAtCut-picked w.tale.base w.tale.log cut pick })
 
     new : World
-    new = record { memory = opened w.memory.start kept.kept w.memory.answers; tale = record { base = image; log = [] }; progress = NoCall }
+    new = record { memory = memory_at_opening w.memory.start kept.kept w.memory.answers; tale = record { base = image; log = [] }; progress = NoCall }

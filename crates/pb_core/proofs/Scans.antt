@@ -7,19 +7,19 @@ use Rattle.pb_object.specs.declared.request.Op.{Op}
 use Rattle.pb_object.specs.Standing.{Standing, kept_list_of, newest, newest_of}
 use Rattle.pb_events.specs.declared.event.Stepped.{Stepped}
 use Rattle.pb_core.specs.Client.{Holding, is_idle, is_announced, is_holding, stored_words, ask_word}
-use Rattle.pb_core.specs.Memory.{Owner, Held, Part, AtNumber, AtCode, AtFirst, AtSecond, AtThird, Work, Scanning, Engine, Memory, shown, known, known_by, side_of}
+use Rattle.pb_core.specs.Memory.{Owner, Held, Part, AtNumber, AtCode, AtFirst, AtSecond, AtThird, Work, Scanning, Engine, Memory, shown, known_standing, known_by, side_of_operation}
 use Rattle.pb_core.specs.MemoryParts.{HasEntries, IsSeen, AreSeen, Meets, IsScan, HasScan, IsMemory}
 use Rattle.pb_core.specs.WordMoves.{scanned, PassesOver, MeetsDue, ScansCode, ScansFirst, ScansSecond, ScansRequest, ScansOther}
 use Rattle.pb_core.proofs.Movers.{OwnClient, move_work}
 use Rattle.pb_core.proofs.Turns.{IsHolder, the_holder, work_suits, suits_work}
 
--- the scan, where what the holder is at is known
+-- the scan, where what the holder is at is known_standing
 pub the_scan : {m : Memory} {c side : ℕ} (d : ℕ) (part : Part) (seen : List Ask) → IsMemory m → m.owner ≡ Held c side → m.work ≡ Scanning d part seen → IsScan (shown m) c side m.start.clients m.requests d part seen
 the_scan {m} {c} {side} d part seen is holds at =
     subst (λ (w : Work). HasScan (Held c side) w (shown m) m.start.clients m.requests) at (subst (λ (o : Owner). HasScan o m.work (shown m) m.start.clients m.requests) holds is.scan)
 
--- while scanning, what is published is what is known
-pub known_shown : {m : Memory} {c side : ℕ} (d : ℕ) (part : Part) (seen : List Ask) → IsMemory m → m.owner ≡ Held c side → m.work ≡ Scanning d part seen → known m ≡ shown m
+-- while scanning, what is published is what is known_standing
+pub known_shown : {m : Memory} {c side : ℕ} (d : ℕ) (part : Part) (seen : List Ask) → IsMemory m → m.owner ≡ Held c side → m.work ≡ Scanning d part seen → known_standing m ≡ shown m
 known_shown {m} d part seen is holds at =
     ap (λ (e : Engine). known_by e m.ahead (shown m)) (work_suits (Scanning d part seen) is holds at).0
 
@@ -173,8 +173,8 @@ keeps-scanning_own {old} {new} {c} is move =
     own (inl before) below = meets-push c move.seen ask (scan.own before)
     own (inr after) below = meets-last c move.seen ask (omega (arith, after, below))
 
-op_is : (x y : Op) → x.code ≡ y.code → side_of x ≡ side_of y
-op_is x y e = ap (λ (code : ℕ). side_of (record x { code = code })) e
+op_is : (x y : Op) → x.code ≡ y.code → side_of_operation x ≡ side_of_operation y
+op_is x y e = ap (λ (code : ℕ). side_of_operation (record x { code = code })) e
 
 pub keeps-scanning_other : {old new : Memory} {c : ℕ} {answer : Stepped} → IsMemory old → c < old.start.clients → ScansOther old c new answer → IsMemory new
 keeps-scanning_other {old} {new} {c} is there move =

@@ -7,9 +7,9 @@ use Rattle.pb_object.specs.History.{History, Round}
 use Rattle.pb_object.specs.Standing.{kept_list_of, newest, newest_of}
 use Rattle.pb_events.specs.declared.event.Stepped.{Stepped}
 use Rattle.pb_core.specs.Client.{Looking, Taking, Holding, is_idle, is_announced, is_holding, stored_words, Client}
-use Rattle.pb_core.specs.Memory.{Owner, Free, Held, Closed, AtNumber, Work, NoWork, Settling, Scanning, Noting, GivingUp, Resting, Doubtful, Memory, with_at, with_client, shown, known, side_of, round_of_turn}
+use Rattle.pb_core.specs.Memory.{Owner, Free, Held, Closed, AtNumber, Work, NoWork, Settling, Scanning, Noting, GivingUp, Resting, Doubtful, Memory, with_at, with_client, shown, known_standing, side_of_operation, round_of_turn}
 use Rattle.pb_core.specs.MemoryParts.{IsClient, HasEntries, HasScan, IsMemory, SuitsWork, Suits, HasCause, HasFilled, held_count}
-use Rattle.pb_core.specs.WordMoves.{IsRunning, go_to, TakesSure, TakesUnsure, NotesFaults, GivesUp}
+use Rattle.pb_core.specs.WordMoves.{IsNotReopening, go_to, TakesSure, TakesUnsure, NotesFaults, GivesUp}
 use Rattle.pb_core.proofs.Basics.{at_each}
 use Rattle.pb_core.proofs.Movers.{OwnClient}
 use Rattle.pb_core.proofs.Stages.{holding_is}
@@ -38,7 +38,7 @@ resting≢doubtful e = cc
 -- a client that isn't the holder, under another owner
 pub other_owner : {kind : Kind} {list : List Kept} {published : History} {ahead : Option Round} {owner : Owner} {words : ℕ → ℕ} {c : ℕ} {b : Client} (next : Owner) → ((side : ℕ) → ¬ (owner ≡ Held c side)) → ((side : ℕ) → ¬ (next ≡ Held c side)) → ¬ (next ≡ Closed) → IsClient kind list published ahead owner words c b → IsClient kind list published ahead next words c b
 other_owner {b = b} next before after never is = record {
-  holding = λ e. absurd (before (side_of b.ask.op) (is.holding e));
+  holding = λ e. absurd (before (side_of_operation b.ask.op) (is.holding e));
   holder = λ side e. absurd (after side e);
   rests = λ e. absurd (never e);
   asking = is.asking;
@@ -52,7 +52,7 @@ other_owner {b = b} next before after never is = record {
 -- Taking
 
 -- a turn word that is even is free
-pub even_free : (owner : Owner) (turn rounds : ℕ) → IsRunning owner → turn ≡ 2 * rounds + held_count owner → turn % 2 ≡ 0 → owner ≡ Free
+pub even_free : (owner : Owner) (turn rounds : ℕ) → IsNotReopening owner → turn ≡ 2 * rounds + held_count owner → turn % 2 ≡ 0 → owner ≡ Free
 even_free Free turn rounds running e even = refl
 even_free (Held c side) turn rounds running e even = absurd (omega (arith, e, even))
 even_free Closed turn rounds running e even = absurd running
@@ -67,13 +67,13 @@ takes_entries {kind} {list} {published} {ahead} {owner} {words} {c} {b} is lacks
         inr (inl (record { reply = coming.reply; announced = refl; told = coming.told; one = coming.one; kept = coming.kept }))
     go (inr (inr served)) = absurd (lacks (ap (λ (l : List Kept). (newest l).number) served.kept))
 
-takes_client : {kind : Kind} {list : List Kept} {published : History} {ahead : Option Round} {owner : Owner} {words : ℕ → ℕ} {c : ℕ} {b : Client} → IsClient kind list published ahead owner words c b → IsWaiting b.stage → ¬ ((newest list).number ≡ b.ask.number) → IsClient kind list published ahead (Held c (side_of b.ask.op)) words c (go_to Holding b)
+takes_client : {kind : Kind} {list : List Kept} {published : History} {ahead : Option Round} {owner : Owner} {words : ℕ → ℕ} {c : ℕ} {b : Client} → IsClient kind list published ahead owner words c b → IsWaiting b.stage → ¬ ((newest list).number ≡ b.ask.number) → IsClient kind list published ahead (Held c (side_of_operation b.ask.op)) words c (go_to Holding b)
 takes_client {c = c} {b = b} is waiting lacks =
     let asking = is.asking waiting.busy in
     record {
       holding = λ _. refl;
       holder = λ side e. refl;
-      rests = λ e. absurd (held≢closed c (side_of b.ask.op) e);
+      rests = λ e. absurd (held≢closed c (side_of_operation b.ask.op) e);
       asking = λ _. record { client = asking.client; number = asking.number; few = asking.few; operation = asking.operation; after = asking.after };
       has_words = record {
         stored = λ place some few. is.has_words.stored place some (omega (arith, few, waiting.all));
@@ -87,7 +87,7 @@ takes_client {c = c} {b = b} is waiting lacks =
     }
 
 -- the turn is taken, and the holder is at something
-take_turn : {m : Memory} {c : ℕ} (turn found : ℕ) (work : Work) → IsMemory m → IsRunning m.owner → c < m.start.clients → (m.book c).stage ≡ Taking turn found → m.turn ≡ turn → SuitsWork work m.engine m.ahead → HasCause work m.noted m.count → HasFilled work (known m) m.start.clients (length m.published) m.rows → HasScan (Held c (side_of (m.book c).ask.op)) work (shown m) m.start.clients m.requests → IsMemory (record (with_client c (go_to Holding (m.book c)) m) { turn = turn + 1; owner = Held c (side_of (m.book c).ask.op); work = work })
+take_turn : {m : Memory} {c : ℕ} (turn found : ℕ) (work : Work) → IsMemory m → IsNotReopening m.owner → c < m.start.clients → (m.book c).stage ≡ Taking turn found → m.turn ≡ turn → SuitsWork work m.engine m.ahead → HasCause work m.noted m.count → HasFilled work (known_standing m) m.start.clients (length m.published) m.rows → HasScan (Held c (side_of_operation (m.book c).ask.op)) work (shown m) m.start.clients m.requests → IsMemory (record (with_client c (go_to Holding (m.book c)) m) { turn = turn + 1; owner = Held c (side_of_operation (m.book c).ask.op); work = work })
 take_turn {m} {c} turn found work is running there at same suits cause filled scan = record {
   history = is.history;
   turn = omega (arith, counted, same);
@@ -126,21 +126,21 @@ take_turn {m} {c} turn found work is running there at same suits cause filled sc
         read.1 (sym (read.0.same_round rounds) ∙ e)
 
     Holds : ℕ → Client → Type 0
-    Holds d x = d < m.start.clients → IsClient m.start.kind (kept_list_of (shown m) d) m.published m.ahead (Held c (side_of b.ask.op)) (m.requests d) d x
+    Holds d x = d < m.start.clients → IsClient m.start.kind (kept_list_of (shown m) d) m.published m.ahead (Held c (side_of_operation b.ask.op)) (m.requests d) d x
 
-    others : (d : ℕ) → d ≢ c → d < m.start.clients → IsClient m.start.kind (kept_list_of (shown m) d) m.published m.ahead (Held c (side_of b.ask.op)) (m.requests d) d (m.book d)
+    others : (d : ℕ) → d ≢ c → d < m.start.clients → IsClient m.start.kind (kept_list_of (shown m) d) m.published m.ahead (Held c (side_of_operation b.ask.op)) (m.requests d) d (m.book d)
     others d apart inside =
-        other_owner (Held c (side_of b.ask.op)) (λ side e. free≢held d side (sym free ∙ e)) (λ side e. apart (sym (held-client c d (side_of b.ask.op) side e))) (held≢closed c (side_of b.ask.op)) (is.clients d inside)
+        other_owner (Held c (side_of_operation b.ask.op)) (λ side e. free≢held d side (sym free ∙ e)) (λ side e. apart (sym (held-client c d (side_of_operation b.ask.op) side e))) (held≢closed c (side_of_operation b.ask.op)) (is.clients d inside)
 
 -- nobody holds the turn where its word is even
 pub free_suits : {m : Memory} → IsMemory m → m.owner ≡ Free → (m.work ≡ NoWork) × (((m.engine ≡ Resting) × (m.ahead ≡ None)) ⊎ (m.engine ≡ Doubtful))
 free_suits {m} is free = subst (λ (o : Owner). Suits o m.work m.engine m.ahead) free is.suits
 
-pub taken_free : {m : Memory} {c : ℕ} (turn found : ℕ) → IsMemory m → IsRunning m.owner → c < m.start.clients → (m.book c).stage ≡ Taking turn found → m.turn ≡ turn → m.owner ≡ Free
+pub taken_free : {m : Memory} {c : ℕ} (turn found : ℕ) → IsMemory m → IsNotReopening m.owner → c < m.start.clients → (m.book c).stage ≡ Taking turn found → m.turn ≡ turn → m.owner ≡ Free
 taken_free {m} {c} turn found is running there at same =
     even_free m.owner m.turn (length m.published) running is.turn (ap (λ (t : ℕ). t % 2) same ∙ (read_at m c (Taking turn found) (is.clients c there) at).2)
 
-pub keeps-taking_sure : {old new : Memory} {c : ℕ} {answer : Stepped} → IsMemory old → IsRunning old.owner → c < old.start.clients → TakesSure old c new answer → IsMemory new
+pub keeps-taking_sure : {old new : Memory} {c : ℕ} {answer : Stepped} → IsMemory old → IsNotReopening old.owner → c < old.start.clients → TakesSure old c new answer → IsMemory new
 keeps-taking_sure {old} {new} {c} is running there move =
     subst IsMemory (sym move.is) (take_turn move.turn move.found (Scanning 0 AtNumber []) is running there move.at move.same (move.sure, none) tt tt (record { within = omega arith; part_is = tt; seen_are = tt; own = λ below. absurd (omega arith) }))
   where
@@ -154,7 +154,7 @@ keeps-taking_sure {old} {new} {c} is running there move =
     none : old.ahead ≡ None
     none = go (free_suits is free).1
 
-pub keeps-taking_unsure : {old new : Memory} {c : ℕ} {answer : Stepped} → IsMemory old → IsRunning old.owner → c < old.start.clients → TakesUnsure old c new answer → IsMemory new
+pub keeps-taking_unsure : {old new : Memory} {c : ℕ} {answer : Stepped} → IsMemory old → IsNotReopening old.owner → c < old.start.clients → TakesUnsure old c new answer → IsMemory new
 keeps-taking_unsure {old} {new} {c} is running there move =
     subst IsMemory (sym move.is) (take_turn move.turn move.found Settling is running there move.at move.same move.unsure tt tt tt)
 
@@ -163,17 +163,17 @@ keeps-taking_unsure {old} {new} {c} is running there move =
 -- a client that holds the turn
 pub record IsHolder (c side : ℕ) (b : Client) : Type 0 where
   pub stage : b.stage ≡ Holding
-  pub of_side : side_of b.ask.op ≡ side
+  pub of_side : side_of_operation b.ask.op ≡ side
 
 pub the_holder : {kind : Kind} {list : List Kept} {published : History} {ahead : Option Round} {owner : Owner} {words : ℕ → ℕ} {c : ℕ} {b : Client} (side : ℕ) → IsClient kind list published ahead owner words c b → owner ≡ Held c side → IsHolder c side b
 the_holder {c = c} {b = b} side is holds =
     let holding : is_holding b.stage ≡ true = is.holder side holds in
     record {
       stage = holding_is b.stage holding;
-      of_side = held-side c c (side_of b.ask.op) side (sym (is.holding holding) ∙ holds);
+      of_side = held-side c c (side_of_operation b.ask.op) side (sym (is.holding holding) ∙ holds);
     }
 
--- what the holder is at, where that is known
+-- what the holder is at, where that is known_standing
 pub work_suits : {m : Memory} {c side : ℕ} (work : Work) → IsMemory m → m.owner ≡ Held c side → m.work ≡ work → SuitsWork work m.engine m.ahead
 work_suits {m} {c} {side} work is holds at =
     subst (λ (w : Work). SuitsWork w m.engine m.ahead) at (subst (λ (o : Owner). Suits o m.work m.engine m.ahead) holds is.suits)

@@ -10,8 +10,8 @@ use Rattle.pb_object.specs.Standing.{kept_list_of, newest, newest_of}
 use Rattle.pb_events.specs.declared.event.Stepped.{Stepped}
 use Rattle.pb_core.specs.Client.{Stage, Looking, LoadsNumber, LoadsCode, LoadsValue, LoadsExtra, Confirming, Lacking, Taking, is_idle, is_announced, is_holding, stored_words, Client, row_word, entry_by}
 use Rattle.pb_core.specs.Memory.{Owner, Free, Held, Closed, Memory, with_client, shown, round_of_turn}
-use Rattle.pb_core.specs.MemoryParts.{IsClient, IsServed, HasEntries, HasRead, IsMemory, held_count, entry_of}
-use Rattle.pb_core.specs.WordMoves.{go_to, sees, own_row, answered, FindsTurn, FindsNumber, LacksWhileHeld, LacksWhileFree, FindsCode, FindsValue, FindsExtra, IsAnswered, FindsNewRound, FindsHeld, MissesTurn}
+use Rattle.pb_core.specs.MemoryParts.{IsClient, IsServed, HasEntries, HasRead, IsMemory, held_count, dated_entry}
+use Rattle.pb_core.specs.WordMoves.{go_to, sees, own_row, answered, FindsTurn, FindsNumber, LacksWhileHeld, LacksWhileFree, FindsCode, FindsValue, FindsExtra, TakesReply, FindsNewRound, FindsHeld, MissesTurn}
 use Rattle.pb_core.proofs.Entries.{stands_in-before, answered-push, dated-push}
 use Rattle.pb_core.proofs.Movers.{OwnClient, move_client, move_answers}
 
@@ -217,14 +217,14 @@ answers_served {kind} {list} {published} {ahead} {owner} {words} {c} {b} served 
   front = omega arith;
   read = tt;
   entries = inl (record {
-    told = served.told ∙ sym (map-append entry_of b.mine (record { entry = entry_by b.ask served.reply; after = b.after; by = length published } ∷ []));
+    told = served.told ∙ sym (map-append dated_entry b.mine (record { entry = entry_by b.ask served.reply; after = b.after; by = length published } ∷ []));
     none = served.none;
     kept = served.kept;
   });
   dates = dated-push published b.mine (record { entry = entry_by b.ask served.reply; after = b.after; by = length published }) is.dates served.dated;
 }
 
-pub keeps-confirming : {old new : Memory} {c : ℕ} {answer : Stepped} → IsMemory old → c < old.start.clients → IsAnswered old c new answer → IsMemory new
+pub keeps-confirming : {old new : Memory} {c : ℕ} {answer : Stepped} → IsMemory old → c < old.start.clients → TakesReply old c new answer → IsMemory new
 keeps-confirming {old} {new} {c} is there move =
     subst IsMemory (sym move.is) (subst (λ (q : ℕ). IsMemory (record (with_client c (answered move.reply q b) old) { answers = old.answers ++ entry_by b.ask move.reply ∷ [] })) (sym rounds) (subst (λ (r : Reply). IsMemory (record (with_client c (answered r (length old.published) b) old) { answers = old.answers ++ entry_by b.ask r ∷ [] })) reply whole))
   where

@@ -3,14 +3,14 @@ use Rattle.std.proofs.Common.{ℕ, ◌<◌}
 use Rattle.pb_events.specs.declared.event.Stepped.{Stepped}
 use Rattle.pb_core.specs.Memory.{Memory}
 use Rattle.pb_core.specs.MemoryParts.{IsMemory}
-use Rattle.pb_core.specs.WordMoves.{IsRunning, WordMove, IsWordStep, storing, announcing, looking, matching, lacking_held, lacking_free, loading_code, loading_value, loading_extra, confirming, finding_new, finding_held, taking_sure, taking_unsure, missing, passing_over, meeting, scanning_code, scanning_first, scanning_second, scanning_own, scanning_other, filling, publishing_own, publishing_others, noting, giving_up}
+use Rattle.pb_core.specs.WordMoves.{IsNotReopening, WordMove, IsWordStep, storing, announcing, looking, matching, lacking_held, lacking_free, loading_code, loading_value, loading_extra, confirming, finding_new, finding_held, taking_sure, taking_unsure, missing, passing_over, meeting, scanning_code, scanning_first, scanning_second, scanning_own, scanning_other, filling, publishing_own, publishing_others, noting, giving_up}
 use Rattle.pb_core.proofs.Asking.{keeps-storing, keeps-announcing}
 use Rattle.pb_core.proofs.Publishing.{keeps-filling, keeps-publishing_own, keeps-publishing_others}
 use Rattle.pb_core.proofs.Scans.{keeps-passing_over, keeps-meeting, keeps-scanning_code, keeps-scanning_first, keeps-scanning_second, keeps-scanning_own, keeps-scanning_other}
 use Rattle.pb_core.proofs.Turns.{keeps-taking_sure, keeps-taking_unsure, keeps-noting, keeps-giving_up}
 use Rattle.pb_core.proofs.Waiting.{keeps-looking, keeps-matching, keeps-lacking_held, keeps-lacking_free, keeps-loading_code, keeps-loading_value, keeps-loading_extra, keeps-confirming, keeps-finding_new, keeps-finding_held, keeps-missing}
 
-keeps-move : {old new : Memory} {c : ℕ} {answer : Stepped} → IsMemory old → IsRunning old.owner → c < old.start.clients → WordMove old c new answer → IsMemory new
+keeps-move : {old new : Memory} {c : ℕ} {answer : Stepped} → IsMemory old → IsNotReopening old.owner → c < old.start.clients → WordMove old c new answer → IsMemory new
 keeps-move is running there (storing move) = keeps-storing is there move
 keeps-move is running there (announcing move) = keeps-announcing is there move
 keeps-move is running there (looking move) = keeps-looking is there move

@@ -18,10 +18,10 @@ use Rattle.pb_events.specs.declared.event.Event.TheVariants.{Ask as AskEvent, St
 use Rattle.pb_events.specs.declared.event.Stepped.{Stepped}
 use Rattle.pb_core.specs.DeviceParts.{HoldsAsClient, with_log, IsSteady, IsUnsettled, Fits, opened_state, IsWorld}
 use Rattle.pb_core.specs.HolderMoves.{round_by, beginning, recording, settling_none, settling_round, failing_settling, failing_before, failing_after}
-use Rattle.pb_core.specs.Memory.{Owner, Free, Held, Closed, Work, NoWork, Settling, Scanning, Calling, Filling, AtNumber, Engine, Resting, Recorded, Writing, Doubtful, Memory, clients_of, shown, known, known_by, with_round, coming}
+use Rattle.pb_core.specs.Memory.{Owner, Free, Held, Closed, Work, NoWork, Settling, Scanning, Calling, Filling, AtNumber, Engine, Resting, Recorded, Writing, Doubtful, Memory, clients_of, shown, known_standing, known_by, with_round_ahead, coming}
 use Rattle.pb_core.specs.MemoryParts.{IsMemory, Suits, SuitsWork, HasFilled, held_count}
 use Rattle.pb_core.specs.WordMoves.{WordMove, storing, announcing, looking, matching, lacking_held, lacking_free, loading_code, loading_value, loading_extra, confirming, finding_new, finding_held, taking_sure, taking_unsure, missing, passing_over, meeting, scanning_code, scanning_first, scanning_second, scanning_own, scanning_other, filling, publishing_own, publishing_others, noting, giving_up}
-use Rattle.pb_core.specs.World.{Progress, NoCall, InCall, World, IsRoundPlan}
+use Rattle.pb_core.specs.World.{CallProgress, NoCall, InCall, World, IsRoundPlan}
 use Rattle.pb_core.specs.WorldMoves.{BeginsCalls, EndsCalls, BeginsSettling, EndsSettlingNone, EndsSettlingRound, Opens, Silent, begins_calls, ends_calls, begins_settling, ends_settling_none, ends_settling_round, opens, Silents, AsksWorld, StepsWord, failed, FailsToSettle, last_calls, FailsToStage, FailsToCommit, ReadsRegion, FailsToReopen, Moves, Next, settling_plan}
 use Rattle.pb_core.proofs.Asking.{keeps-asking}
 use Rattle.pb_core.proofs.Calls.{writing_ends, staging_fails, committing_fails, settling_ends, settling_fails}
@@ -37,21 +37,21 @@ pub shown_is : (m : Memory) → shown m ≡ state_after (opened_state m) m.publi
 shown_is m = state_after-append m.start m.past m.published
 
 -- what fits memory
-abbrev FitsMemory : Progress → Tale → Memory → Type 0
+abbrev FitsMemory : CallProgress → Tale → Memory → Type 0
 FitsMemory progress tale m = Fits m.engine progress tale (opened_state m) m.published m.ahead
 
 -- Words
 
 -- publishing makes of a recorded round a published one
-fits-published : (progress : Progress) (tale : Tale) (s : Standing) (rounds : History) (round : Round) → Fits Recorded progress tale s rounds (Some round) → Fits Resting progress tale s (rounds ++ round ∷ []) None
+fits-published : (progress : CallProgress) (tale : Tale) (s : Standing) (rounds : History) (round : Round) → Fits Recorded progress tale s rounds (Some round) → Fits Resting progress tale s (rounds ++ round ∷ []) None
 fits-published NoCall tale s rounds round fits = fits
 fits-published (InCall entry made left) tale s rounds round fits = fits
 
-fits-publishing : {m : Memory} {c side : ℕ} (count : ℕ) (round : Round) (progress : Progress) (tale : Tale) → IsMemory m → m.owner ≡ Held c side → m.work ≡ Filling count → m.ahead ≡ Some round → FitsMemory progress tale m → Fits Resting progress tale (opened_state m) (m.published ++ round ∷ []) None
+fits-publishing : {m : Memory} {c side : ℕ} (count : ℕ) (round : Round) (progress : CallProgress) (tale : Tale) → IsMemory m → m.owner ≡ Held c side → m.work ≡ Filling count → m.ahead ≡ Some round → FitsMemory progress tale m → Fits Resting progress tale (opened_state m) (m.published ++ round ∷ []) None
 fits-publishing {m} count round progress tale is holds at ahead fits =
     fits-published progress tale (opened_state m) m.published round (subst (λ (a : Option Round). Fits Recorded progress tale (opened_state m) m.published a) ahead (subst (λ (e : Engine). Fits e progress tale (opened_state m) m.published m.ahead) (work_suits (Filling count) is holds at).0 fits))
 
-fits-word : {old new : Memory} {c : ℕ} {answer : Stepped} (progress : Progress) (tale : Tale) → IsMemory old → WordMove old c new answer → FitsMemory progress tale old → FitsMemory progress tale new
+fits-word : {old new : Memory} {c : ℕ} {answer : Stepped} (progress : CallProgress) (tale : Tale) → IsMemory old → WordMove old c new answer → FitsMemory progress tale old → FitsMemory progress tale new
 fits-word progress tale is (storing move) fits = subst (FitsMemory progress tale) (sym move.is) fits
 fits-word progress tale is (announcing move) fits = subst (FitsMemory progress tale) (sym move.is) fits
 fits-word progress tale is (looking move) fits = subst (FitsMemory progress tale) (sym move.is) fits
@@ -163,10 +163,10 @@ keeps-asking_world {old} {new} {ask} is step = subst IsWorld (sym step.is) (reco
 
 -- Calls that begin and end
 
--- what fits, where what is known of the device, and which calls are being made
-pub fits_in : (w : World) (engine : Engine) (now : Progress) → w.progress ≡ now → w.memory.engine ≡ engine → IsWorld w → Fits engine now w.tale (opened_state w.memory) w.memory.published w.memory.ahead
+-- what fits, where what is known_standing of the device, and which calls are being made
+pub fits_in : (w : World) (engine : Engine) (now : CallProgress) → w.progress ≡ now → w.memory.engine ≡ engine → IsWorld w → Fits engine now w.tale (opened_state w.memory) w.memory.published w.memory.ahead
 fits_in w engine now at known_at is =
-    subst (λ (p : Progress). Fits engine p w.tale (opened_state w.memory) w.memory.published w.memory.ahead) at (subst (λ (e : Engine). Fits e w.progress w.tale (opened_state w.memory) w.memory.published w.memory.ahead) known_at is.fits)
+    subst (λ (p : CallProgress). Fits engine p w.tale (opened_state w.memory) w.memory.published w.memory.ahead) at (subst (λ (e : Engine). Fits e w.progress w.tale (opened_state w.memory) w.memory.published w.memory.ahead) known_at is.fits)
 
 keeps-begins_calls : {old new : World} → IsWorld old → BeginsCalls old new → IsWorld new
 keeps-begins_calls {old} {new} is step = subst IsWorld (sym step.is) (record {
@@ -186,12 +186,12 @@ keeps-begins_calls {old} {new} is step = subst IsWorld (sym step.is) (record {
     m = old.memory
 
     round : Round
-    round = round_by step.move.side (known m) step.move.seen
+    round = round_by step.move.side (known_standing m) step.move.seen
 
     suits : SuitsWork (Scanning (clients_of m) AtNumber step.move.seen) m.engine m.ahead
     suits = work_suits (Scanning (clients_of m) AtNumber step.move.seen) is.memory_is step.move.holds step.move.at
 
-    known_is : known m ≡ shown m
+    known_is : known_standing m ≡ shown m
     known_is = ap (λ (e : Engine). known_by e m.ahead (shown m)) suits.0
 
     steady : IsSteady old.tale (opened_state m) m.published
@@ -213,7 +213,7 @@ keeps-begins_settling {old} {new} is step = subst IsWorld (sym step.is) (record 
   fits = subst (λ (e : Engine). Fits e (InCall old.tale.log [] (settling_plan m)) old.tale (opened_state m) m.published m.ahead) (sym doubtful) (record {
     log = sym (append-nil old.tale.log);
     begun = fits_in old Doubtful NoCall step.idle doubtful is;
-    planned = ap (λ (s : Standing). settle_to (header_for s) (with_round m.ahead s)) (known_is ∙ shown_is m);
+    planned = ap (λ (s : Standing). settle_to (header_for s) (with_round_ahead m.ahead s)) (known_is ∙ shown_is m);
   });
 })
   where
@@ -223,7 +223,7 @@ keeps-begins_settling {old} {new} is step = subst IsWorld (sym step.is) (record 
     doubtful : m.engine ≡ Doubtful
     doubtful = work_suits Settling is.memory_is step.holds step.at
 
-    known_is : known m ≡ shown m
+    known_is : known_standing m ≡ shown m
     known_is = ap (λ (e : Engine). known_by e m.ahead (shown m)) doubtful
 
 settled : {w : World} {entry made : List LogOp} → IsWorld w → w.progress ≡ InCall entry made [] → w.memory.engine ≡ Doubtful → IsSteady w.tale (opened_state w.memory) (w.memory.published ++ coming w.memory.ahead)
@@ -266,7 +266,7 @@ opens_memory {m} is closed = record {
   cause = is.cause;
   clients = λ c inside. other_owner Free (λ side e. closed≢held c side (sym closed ∙ e)) (λ side e. free≢held c side e) free≢closed (is.clients c inside);
   rows = is.rows;
-  filled = subst (λ (w : Work). HasFilled w (known (record m { owner = Free; engine = Resting })) m.start.clients (length m.published) m.rows) (sym suits.0) tt;
+  filled = subst (λ (w : Work). HasFilled w (known_standing (record m { owner = Free; engine = Resting })) m.start.clients (length m.published) m.rows) (sym suits.0) tt;
   scan = tt;
   answers_are = is.answers_are;
 }
@@ -325,7 +325,7 @@ call_made {w} entry made op left is at = record {
   memory_is = is.memory_is;
   holder = is.holder;
   base = is.base;
-  fits = fits-call w.memory.engine w.tale (opened_state w.memory) w.memory.published w.memory.ahead entry made left op (subst (λ (p : Progress). FitsMemory p w.tale w.memory) at is.fits);
+  fits = fits-call w.memory.engine w.tale (opened_state w.memory) w.memory.published w.memory.ahead entry made left op (subst (λ (p : CallProgress). FitsMemory p w.tale w.memory) at is.fits);
 }
 
 -- Failures
@@ -391,9 +391,9 @@ keeps-reads_region {old} {new} is step = subst IsWorld (sym step.is) (record {
     same =
         represents_one (contents_of old.tale) step.standing (state_after (opened_state m) m.published) step.stands (steady_holds steady)
 
-    plan : settle_to (header_for step.standing) step.standing ≡ settle_to (header_for (state_after (opened_state m) m.published)) (with_round m.ahead (state_after (opened_state m) m.published))
+    plan : settle_to (header_for step.standing) step.standing ≡ settle_to (header_for (state_after (opened_state m) m.published)) (with_round_ahead m.ahead (state_after (opened_state m) m.published))
     plan =
-        ap (λ (s : Standing). settle_to (header_for s) s) same ∙ ap (λ (a : Option Round). settle_to (header_for (state_after (opened_state m) m.published)) (with_round a (state_after (opened_state m) m.published))) (sym suits.2)
+        ap (λ (s : Standing). settle_to (header_for s) s) same ∙ ap (λ (a : Option Round). settle_to (header_for (state_after (opened_state m) m.published)) (with_round_ahead a (state_after (opened_state m) m.published))) (sym suits.2)
 
 keeps-fails_to_reopen : {old new : World} {how : Leaves} {answer : Stepped} → IsWorld old → FailsToReopen old how new answer → IsWorld new
 keeps-fails_to_reopen {old} {new} {how} is step = subst IsWorld (sym step.is) (record {

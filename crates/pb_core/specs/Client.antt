@@ -116,9 +116,9 @@ row_word kept (suc (suc (suc more))) = kept.reply.extra
 abbrev pub entry_by : Ask → Reply → Entry
 entry_by ask reply = record { client = ask.client; number = ask.number; op = ask.op; reply = reply }
 
-abbrev pub no_ask : Ask
-no_ask = record { client = 0; number = 0; op = record { code = 0; a = 0; b = 0; c = 0 } }
+abbrev pub no_request : Ask
+no_request = record { client = 0; number = 0; op = record { code = 0; a = 0; b = 0; c = 0 } }
 
 -- a client that has asked for nothing since the region was opened
 abbrev pub fresh_client : List Kept → Client
-fresh_client kept = record { stage = Idle; ask = no_ask; after = 0; front = 0; mine = []; kept = kept }
+fresh_client kept = record { stage = Idle; ask = no_request; after = 0; front = 0; mine = []; kept = kept }

@@ -10,9 +10,9 @@ use Rattle.pb_layout.specs.LogHistory.{LoggedRound, rounds_in, AreSealed}
 use Rattle.pb_layout.specs.Recovered.{Represents}
 use Rattle.pb_layout.specs.RegionOps.{settle_to}
 use Rattle.pb_layout.specs.Represents.{header_for}
-use Rattle.pb_core.specs.Memory.{Owner, Free, Held, Closed, Engine, Resting, Recorded, Writing, Doubtful, Memory, clients_of, with_round, coming}
+use Rattle.pb_core.specs.Memory.{Owner, Free, Held, Closed, Engine, Resting, Recorded, Writing, Doubtful, Memory, clients_of, with_round_ahead, coming}
 use Rattle.pb_core.specs.MemoryParts.{IsMemory}
-use Rattle.pb_core.specs.World.{Progress, NoCall, InCall, World, IsRoundPlan}
+use Rattle.pb_core.specs.World.{CallProgress, NoCall, InCall, World, IsRoundPlan}
 
 -- the device as it was with another log
 abbrev pub with_log : Tale → List LogOp → Tale
@@ -50,9 +50,9 @@ IsUnsettled tale s rounds (Some round) = IsInDoubtAfter tale s rounds round
 pub record IsSettling (tale : Tale) (s : Standing) (rounds : History) (ahead : Option Round) (entry made left : List LogOp) : Type 0 where
   pub log : tale.log ≡ entry ++ made
   pub begun : IsUnsettled (with_log tale entry) s rounds ahead
-  pub planned : made ++ left ≡ settle_to (header_for (state_after s rounds)) (with_round ahead (state_after s rounds))
+  pub planned : made ++ left ≡ settle_to (header_for (state_after s rounds)) (with_round_ahead ahead (state_after s rounds))
 
-abbrev pub Fits : Engine → Progress → Tale → Standing → History → Option Round → Type 0
+abbrev pub Fits : Engine → CallProgress → Tale → Standing → History → Option Round → Type 0
 Fits Resting NoCall tale s rounds ahead = IsSteady tale s rounds
 Fits Resting (InCall entry made left) tale s rounds ahead = ⊥
 Fits Recorded NoCall tale s rounds ahead = IsSteady tale s (rounds ++ coming ahead)

@@ -8,15 +8,15 @@ use Rattle.pb_layout.specs.declared.header.Header.{Header}
 use Rattle.pb_layout.specs.Exits.{AreEmptyRecords, empty_for}
 use Rattle.pb_layout.specs.RegionOps.{format_ops}
 use Rattle.pb_layout.specs.Shape.{IsHeader}
-use Rattle.pb_core.specs.Memory.{Free, Resting, Memory, opened}
+use Rattle.pb_core.specs.Memory.{Free, Resting, Memory, memory_at_opening}
 use Rattle.pb_core.specs.World.{NoCall, World}
 
 -- memory over a region in which nothing was asked yet
 abbrev pub fresh_memory : Header → Memory
-fresh_memory head = record (opened (empty_for head) [] []) { owner = Free; engine = Resting }
+fresh_memory head = record (memory_at_opening (empty_for head) [] []) { owner = Free; engine = Resting }
 
 -- nothing happened since a device of zeros was formatted with this header
-pub record IsFresh (head : Header) (w : World) : Type 0 where
+pub record IsFreshWorld (head : Header) (w : World) : Type 0 where
   pub valid : IsHeader head
   pub zeros : List Line
   pub long : length zeros ≡ LINES

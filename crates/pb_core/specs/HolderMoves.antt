@@ -6,7 +6,7 @@ use Rattle.pb_object.specs.Object.{reply_of}
 use Rattle.pb_object.specs.Standing.{Standing}
 use Rattle.pb_pmem.specs.Count.{Rose}
 use Rattle.pb_core.specs.Client.{entry_by}
-use Rattle.pb_core.specs.Memory.{Held, AtNumber, Settling, Scanning, Calling, Filling, Noting, Resting, Recorded, Writing, Doubtful, Memory, clients_of, known}
+use Rattle.pb_core.specs.Memory.{Held, AtNumber, Settling, Scanning, Calling, Filling, Noting, Resting, Recorded, Writing, Doubtful, Memory, clients_of, known_standing}
 
 -- requests that are applied one after the other, with the object's replies
 abbrev pub entries_by : Standing → List Ask → List Entry
@@ -23,7 +23,7 @@ pub record Begins (old : Memory) (c : ℕ) (new : Memory) : Type 0 where
   pub holds : old.owner ≡ Held c side
   pub seen : List Ask
   pub at : old.work ≡ Scanning (clients_of old) AtNumber seen
-  pub is : new ≡ record old { ahead = Some (round_by side (known old) seen); work = Calling; engine = Writing }
+  pub is : new ≡ record old { ahead = Some (round_by side (known_standing old) seen); work = Calling; engine = Writing }
 
 -- its calls are made: it is recorded, and the replies come next
 pub record Records (old : Memory) (c : ℕ) (new : Memory) : Type 0 where

@@ -25,9 +25,9 @@ use Rattle.pb_events.specs.declared.event.Stepped.TheVariants.{Went, Done, Busy,
 use Rattle.pb_core.specs.Client.{Stage, Idle, Storing, Looking, LoadsNumber, LoadsCode, LoadsValue, LoadsExtra, Confirming, Lacking, Taking, Holding, is_announced, is_holding, entry_by}
 use Rattle.pb_core.specs.DeviceParts.{opened_state}
 use Rattle.pb_core.specs.HolderMoves.{Begins, round_by}
-use Rattle.pb_core.specs.Memory.{Held, Noting, GivingUp, Engine, Resting, Recorded, Writing, Doubtful, Memory, clients_of, shown, with_round, coming}
+use Rattle.pb_core.specs.Memory.{Held, Noting, GivingUp, Engine, Resting, Recorded, Writing, Doubtful, Memory, clients_of, shown, with_round_ahead, coming}
 use Rattle.pb_core.specs.MemoryParts.{AreAnswered, Meets}
-use Rattle.pb_core.specs.World.{Progress, NoCall, InCall, World}
+use Rattle.pb_core.specs.World.{CallProgress, NoCall, InCall, World}
 use Rattle.pb_core.specs.WorldMoves.{all_rounds, last_calls}
 
 -- the requests that were answered with a reply, as entries
@@ -79,14 +79,14 @@ members_in_round (op ∷ left) s round =
 
 -- what it may be found with, by what is known of it, how far its calls came, the round ahead, and the standing after the published rounds.
 -- While a round is written there are calls, and it is ahead: where there is nothing to be found there is no such world
-abbrev pub members_by : Engine → Progress → Option Round → Standing → List (Option Standing)
+abbrev pub members_by : Engine → CallProgress → Option Round → Standing → List (Option Standing)
 members_by Resting progress ahead s = Some s ∷ []
-members_by Recorded progress ahead s = Some (with_round ahead s) ∷ []
+members_by Recorded progress ahead s = Some (with_round_ahead ahead s) ∷ []
 members_by Writing NoCall ahead s = []
 members_by Writing (InCall entry made left) None s = []
 members_by Writing (InCall entry made left) (Some round) s = members_in_round left s round
 members_by Doubtful NoCall ahead s = members_in_doubt ahead s
-members_by Doubtful (InCall entry made []) ahead s = Some (with_round ahead s) ∷ []
+members_by Doubtful (InCall entry made []) ahead s = Some (with_round_ahead ahead s) ∷ []
 members_by Doubtful (InCall entry made (op ∷ left)) ahead s = members_in_doubt ahead s
 
 abbrev pub members_of : World → List (Option Standing)

@@ -7,7 +7,7 @@ use Rattle.pb_object.specs.History.{Entry, Round, History, after_round, state_af
 use Rattle.pb_object.specs.Standing.{Standing, kept_list_of, newest_of}
 use Rattle.pb_core.specs.Client.{Client, row_word, fresh_client}
 
--- who has the turn: nobody; a client, for requests of a side; or nobody, since the region is being opened again
+-- who has the turn: nobody; a client, for requests of a side; or nobody, since the region is being memory_at_opening again
 pub data Owner : Type 0 where
   Free : Owner
   Held : (client side : ℕ) → Owner
@@ -37,7 +37,7 @@ pub data Work : Type 0 where
   Noting : (from to : ℕ) → Work
   GivingUp : (from to : ℕ) → Work
 
--- what is known of the device: that what is recorded is sealed; that a round is, and isn't published yet; that a round's calls are being
+-- what is known_standing of the device: that what is recorded is sealed; that a round is, and isn't published yet; that a round's calls are being
 -- made; or nothing for sure, until it is settled
 pub data Engine : Type 0 where
   Resting : Engine
@@ -46,7 +46,7 @@ pub data Engine : Type 0 where
   Doubtful : Engine
 
 pub record Memory : Type 0 where
-  -- the standing in which all began, the rounds from before the last crash, and those published since the region was opened
+  -- the standing in which all began, the rounds from before the last crash, and those published since the region was memory_at_opening
   pub start : Standing
   pub past : History
   pub published : History
@@ -82,23 +82,23 @@ abbrev pub shown : Memory → Standing
 shown m = state_after m.start (m.past ++ m.published)
 
 -- the standing after a round, where there is one
-abbrev pub with_round : Option Round → Standing → Standing
-with_round None s = s
-with_round (Some round) s = after_round s round
+abbrev pub with_round_ahead : Option Round → Standing → Standing
+with_round_ahead None s = s
+with_round_ahead (Some round) s = after_round s round
 
--- the standing that is known for sure: a recorded round counts before it is published
+-- the standing that is known_standing for sure: a recorded round counts before it is published
 abbrev pub known_by : Engine → Option Round → Standing → Standing
 known_by Resting ahead s = s
-known_by Recorded ahead s = with_round ahead s
+known_by Recorded ahead s = with_round_ahead ahead s
 known_by Writing ahead s = s
 known_by Doubtful ahead s = s
 
-abbrev pub known : Memory → Standing
-known m = known_by m.engine m.ahead (shown m)
+abbrev pub known_standing : Memory → Standing
+known_standing m = known_by m.engine m.ahead (shown m)
 
 -- the side of an operation
-abbrev pub side_of : Op → ℕ
-side_of op = unwrap_or (option_map action_side (action_of op.code)) 0
+abbrev pub side_of_operation : Op → ℕ
+side_of_operation op = unwrap_or (option_map action_side (action_of op.code)) 0
 
 -- how many rounds a turn word counts
 abbrev pub round_of_turn : ℕ → ℕ
@@ -110,8 +110,8 @@ coming None = []
 coming (Some round) = round ∷ []
 
 -- memory as it is made anew over a standing with these rounds
-abbrev pub opened : Standing → History → List Entry → Memory
-opened start past answers = record {
+abbrev pub memory_at_opening : Standing → History → List Entry → Memory
+memory_at_opening start past answers = record {
   start = start;
   past = past;
   published = [];

@@ -10,7 +10,7 @@ use Rattle.pb_object.specs.Request.{IsOperation}
 use Rattle.pb_object.specs.Standing.{Standing, keep, kept_list_of, newest, newest_of}
 use Rattle.pb_pmem.specs.Count.{Rose}
 use Rattle.pb_core.specs.Client.{Stage, Idle, Storing, Looking, LoadsNumber, LoadsCode, LoadsValue, LoadsExtra, Confirming, Lacking, Taking, Holding, is_idle, is_announced, is_holding, stored_words, Client, Dated, ask_word, row_word, entry_by}
-use Rattle.pb_core.specs.Memory.{Owner, Free, Held, Closed, Part, AtNumber, AtCode, AtFirst, AtSecond, AtThird, Work, NoWork, Settling, Scanning, Calling, Filling, Noting, GivingUp, Engine, Resting, Recorded, Writing, Doubtful, Memory, shown, known, side_of, round_of_turn}
+use Rattle.pb_core.specs.Memory.{Owner, Free, Held, Closed, Part, AtNumber, AtCode, AtFirst, AtSecond, AtThird, Work, NoWork, Settling, Scanning, Calling, Filling, Noting, GivingUp, Engine, Resting, Recorded, Writing, Doubtful, Memory, shown, known_standing, side_of_operation, round_of_turn}
 
 -- Entries
 
@@ -44,11 +44,11 @@ abbrev pub entries_ahead : ℕ → Option Round → List Entry
 entries_ahead c None = []
 entries_ahead c (Some round) = entries_with c round.entries
 
-abbrev pub entry_of : Dated → Entry
-entry_of dated = dated.entry
+abbrev pub dated_entry : Dated → Entry
+dated_entry dated = dated.entry
 
 abbrev pub own_entries : Client → List Entry
-own_entries b = map entry_of b.mine
+own_entries b = map dated_entry b.mine
 
 -- History
 
@@ -70,7 +70,7 @@ held_count Free = 0
 held_count (Held client side) = 1
 held_count Closed = 0
 
--- what the holder is at, what is known of the device, and what is ahead suit one another
+-- what the holder is at, what is known_standing of the device, and what is ahead suit one another
 abbrev pub SuitsWork : Work → Engine → Option Round → Type 0
 SuitsWork NoWork engine ahead = ⊥
 SuitsWork Settling engine ahead = engine ≡ Doubtful
@@ -163,7 +163,7 @@ AreDated published [] = Unit {0}
 AreDated published (dated ∷ mine) = StandsBetween published dated.after dated.by dated.entry × AreDated published mine
 
 pub record IsClient (kind : Kind) (list : List Kept) (published : History) (ahead : Option Round) (owner : Owner) (words : ℕ → ℕ) (c : ℕ) (b : Client) : Type 0 where
-  pub holding : is_holding b.stage ≡ true → owner ≡ Held c (side_of b.ask.op)
+  pub holding : is_holding b.stage ≡ true → owner ≡ Held c (side_of_operation b.ask.op)
   pub holder : (side : ℕ) → owner ≡ Held c side → is_holding b.stage ≡ true
   pub rests : owner ≡ Closed → is_idle b.stage ≡ true
   pub asking : is_idle b.stage ≡ false → IsAsking kind c b
@@ -180,7 +180,7 @@ abbrev pub HasRows : Standing → ℕ → ℕ → (ℕ → ℕ → ℕ → ℕ) 
 HasRows s clients rounds rows =
     (c place : ℕ) → c < clients → place < 4 → rows (rounds % 2) c place ≡ row_word (newest_of s c) place
 
--- the first so many words of the other row have those that are known for sure
+-- the first so many words of the other row have those that are known_standing for sure
 pub record IsFilled (s : Standing) (clients rounds count : ℕ) (rows : ℕ → ℕ → ℕ → ℕ) : Type 0 where
   pub few : count ≤ 4 * clients
   pub stored : (c place : ℕ) → place < 4 → 4 * c + place < count → rows (suc rounds % 2) c place ≡ row_word (newest_of s c) place
@@ -200,7 +200,7 @@ HasFilled (GivingUp from to) s clients rounds rows = Unit {0}
 pub record IsSeen (s : Standing) (side : ℕ) (requests : ℕ → ℕ → ℕ) (ask : Ask) : Type 0 where
   pub words : (place : ℕ) → place < 5 → requests ask.client place ≡ ask_word ask place
   pub due : ask.number ≡ (newest_of s ask.client).number + 1
-  pub side_is : side_of ask.op ≡ side
+  pub side_is : side_of_operation ask.op ≡ side
 
 -- requests of clients in rising order, from one on and below one
 abbrev pub AreSeen : Standing → ℕ → (ℕ → ℕ → ℕ) → ℕ → ℕ → List Ask → Type 0
@@ -252,6 +252,6 @@ pub record IsMemory (m : Memory) : Type 0 where
   pub cause : HasCause m.work m.noted m.count
   pub clients : (c : ℕ) → c < m.start.clients → IsClient m.start.kind (kept_list_of (shown m) c) m.published m.ahead m.owner (m.requests c) c (m.book c)
   pub rows : HasRows (shown m) m.start.clients (length m.published) m.rows
-  pub filled : HasFilled m.work (known m) m.start.clients (length m.published) m.rows
+  pub filled : HasFilled m.work (known_standing m) m.start.clients (length m.published) m.rows
   pub scan : HasScan m.owner m.work (shown m) m.start.clients m.requests
   pub answers_are : AreAnswered (m.past ++ m.published) m.answers

@@ -18,38 +18,38 @@ use Rattle.pb_events.specs.declared.event.Event.{Event}
 use Rattle.pb_events.specs.declared.event.Event.TheVariants.{Ask as AskEvent, Step, Fail, Crash, Reopen, ReopenFail}
 use Rattle.pb_events.specs.declared.event.Stepped.{Stepped}
 use Rattle.pb_core.specs.HolderMoves.{round_by}
-use Rattle.pb_core.specs.Memory.{Owner, Free, Held, Closed, Work, NoWork, Settling, Scanning, Calling, Filling, Noting, GivingUp, clients_of, known}
-use Rattle.pb_core.specs.WordMoves.{IsRunning}
-use Rattle.pb_core.specs.World.{Progress, NoCall, InCall, World, cell_ops, puts_of}
+use Rattle.pb_core.specs.Memory.{Owner, Free, Held, Closed, Work, NoWork, Settling, Scanning, Calling, Filling, Noting, GivingUp, clients_of, known_standing}
+use Rattle.pb_core.specs.WordMoves.{IsNotReopening}
+use Rattle.pb_core.specs.World.{CallProgress, NoCall, InCall, World, ops_of_puts, puts_of}
 use Rattle.pb_core.specs.WorldMoves.{Silent, begins_calls, ends_calls, begins_settling, ends_settling_none, ends_settling_round, opens, AsksWorld, StepsWord, CallsDevice, Moves}
 
 -- When moves that nobody sees are due
 
 -- a call of the device is left to make
-abbrev pub IsCallable : Progress → Type 0
+abbrev pub IsCallable : CallProgress → Type 0
 IsCallable NoCall = ⊥
 IsCallable (InCall entry made []) = ⊥
 IsCallable (InCall entry made (op ∷ left)) = Unit {0}
 
 -- what the holder is at goes on with a step that is seen: no calls begin before it, and none end
-abbrev pub IsReady : Work → ℕ → Progress → Type 0
-IsReady NoWork clients progress = Unit {0}
-IsReady Settling clients progress = IsCallable progress
-IsReady (Scanning client part seen) clients progress = client < clients
-IsReady Calling clients progress = IsCallable progress
-IsReady (Filling count) clients progress = Unit {0}
-IsReady (Noting from to) clients progress = Unit {0}
-IsReady (GivingUp from to) clients progress = Unit {0}
+abbrev pub IsReadyForStep : Work → ℕ → CallProgress → Type 0
+IsReadyForStep NoWork clients progress = Unit {0}
+IsReadyForStep Settling clients progress = IsCallable progress
+IsReadyForStep (Scanning client part seen) clients progress = client < clients
+IsReadyForStep Calling clients progress = IsCallable progress
+IsReadyForStep (Filling count) clients progress = Unit {0}
+IsReadyForStep (Noting from to) clients progress = Unit {0}
+IsReadyForStep (GivingUp from to) clients progress = Unit {0}
 
 -- the region is open, and a client's next step is one that is seen: others than the holder make no calls
-abbrev pub IsNextSeen : Owner → Work → ℕ → Progress → ℕ → Type 0
+abbrev pub IsNextSeen : Owner → Work → ℕ → CallProgress → ℕ → Type 0
 IsNextSeen Free work clients progress c = Unit {0}
-IsNextSeen (Held client side) work clients progress c = client ≡ c → IsReady work clients progress
+IsNextSeen (Held client side) work clients progress c = client ≡ c → IsReadyForStep work clients progress
 IsNextSeen Closed work clients progress c = ⊥
 
 -- an event comes at once: nothing that nobody sees is due before it
 abbrev pub IsAtOnce : World → Event → Type 0
-IsAtOnce w (AskEvent ask) = IsRunning w.memory.owner
+IsAtOnce w (AskEvent ask) = IsNotReopening w.memory.owner
 IsAtOnce w (Step client) = IsNextSeen w.memory.owner w.memory.work (clients_of w.memory) w.progress client
 IsAtOnce w (Fail client how) = IsNextSeen w.memory.owner w.memory.work (clients_of w.memory) w.progress client
 IsAtOnce w (Crash cut pick) = Unit {0}
@@ -71,24 +71,24 @@ pub record IsPlayedPlan (tale : Tale) (s : Standing) (round : Round) (plan : Lis
   pub lines : List Line
   pub next : IsNextRecord (contents tale.base tale.log) s round lines
   pub listed : ListsRising (after_round s round).state (object_part (header_for s) lines)
-  pub is : plan ≡ cell_ops (header_for s) (puts_of s round) ++ store_over (header_for s) round.side (rounds_of s round.side) (Some (record_in_use (contents tale.base tale.log) (header_for s) round.side (rounds_of s round.side + 1))) lines
+  pub is : plan ≡ ops_of_puts (header_for s) (puts_of s round) ++ store_over (header_for s) round.side (rounds_of s round.side) (Some (record_in_use (contents tale.base tale.log) (header_for s) round.side (rounds_of s round.side + 1))) lines
 
 -- Moves
 
 -- a move that nobody sees, as it is played
-abbrev pub IsPlayed : (old new : World) → Silent old new → Type 0
-IsPlayed old new (begins_calls step) =
-    IsPlayedPlan old.tale (known old.memory) (round_by step.move.side (known old.memory) step.move.seen) step.plan
-IsPlayed old new (ends_calls step) = Unit {0}
-IsPlayed old new (begins_settling step) = Unit {0}
-IsPlayed old new (ends_settling_none step) = Unit {0}
-IsPlayed old new (ends_settling_round step) = Unit {0}
-IsPlayed old new (opens step) = Unit {0}
+abbrev pub IsPlayedMove : (old new : World) → Silent old new → Type 0
+IsPlayedMove old new (begins_calls step) =
+    IsPlayedPlan old.tale (known_standing old.memory) (round_by step.move.side (known_standing old.memory) step.move.seen) step.plan
+IsPlayedMove old new (ends_calls step) = Unit {0}
+IsPlayedMove old new (begins_settling step) = Unit {0}
+IsPlayedMove old new (ends_settling_none step) = Unit {0}
+IsPlayedMove old new (ends_settling_round step) = Unit {0}
+IsPlayedMove old new (opens step) = Unit {0}
 
 -- what comes before an event that comes at once, or doesn't: nothing, or one move that nobody sees
 pub data ComesBefore (now : Type 0) (old new : World) : Type 0 where
   at_once : now → new ≡ old → ComesBefore now old new
-  silently : ¬ now → (move : Silent old new) → IsPlayed old new move → ComesBefore now old new
+  silently : ¬ now → (move : Silent old new) → IsPlayedMove old new move → ComesBefore now old new
 
 -- the holder is at calls of the device
 abbrev pub IsCalling : Work → Type 0

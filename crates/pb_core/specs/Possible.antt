@@ -12,12 +12,12 @@ use Rattle.pb_events.specs.declared.event.Event.TheVariants.{Ask as AskEvent, St
 use Rattle.pb_events.specs.declared.event.Stepped.{Stepped}
 use Rattle.pb_core.specs.Client.{is_idle}
 use Rattle.pb_core.specs.HolderMoves.{round_by}
-use Rattle.pb_core.specs.Memory.{Owner, Free, Held, Closed, AtNumber, AtCode, AtFirst, AtSecond, AtThird, Work, NoWork, Settling, Scanning, Calling, Filling, Noting, GivingUp, clients_of, known}
-use Rattle.pb_core.specs.World.{Progress, NoCall, InCall, World, IsRoundPlan}
+use Rattle.pb_core.specs.Memory.{Owner, Free, Held, Closed, AtNumber, AtCode, AtFirst, AtSecond, AtThird, Work, NoWork, Settling, Scanning, Calling, Filling, Noting, GivingUp, clients_of, known_standing}
+use Rattle.pb_core.specs.World.{CallProgress, NoCall, InCall, World, IsRoundPlan}
 use Rattle.pb_core.specs.WorldMoves.{Next}
 
 -- the region is being opened again, and something is left to do
-abbrev pub IsOpening : Owner → Progress → Type 0
+abbrev pub IsOpening : Owner → CallProgress → Type 0
 IsOpening Free progress = ⊥
 IsOpening (Held client side) progress = ⊥
 IsOpening Closed NoCall = Unit {0}
@@ -52,10 +52,10 @@ pub record MayStep (w : World) (client : ℕ) : Type 0 where
 abbrev pub HasPlan : World → Type 0
 HasPlan w =
     (client side : ℕ) (seen : List Ask) → w.memory.owner ≡ Held client side → w.memory.work ≡ Scanning (clients_of w.memory) AtNumber seen
-    → (plan : List LogOp) × IsRoundPlan w.tale (known w.memory) (round_by side (known w.memory) seen) plan
+    → (plan : List LogOp) × IsRoundPlan w.tale (known_standing w.memory) (round_by side (known_standing w.memory) seen) plan
 
 -- the holder's next step is a call of the device: of settling, of a round, or the first one of a round whose scan is over
-abbrev pub IsCallDue : Work → Progress → ℕ → Type 0
+abbrev pub IsCallDue : Work → CallProgress → ℕ → Type 0
 IsCallDue NoWork progress clients = ⊥
 IsCallDue Settling NoCall clients = Unit {0}
 IsCallDue Settling (InCall entry made []) clients = ⊥

@@ -9,7 +9,7 @@ use Rattle.pb_object.specs.Standing.{keep, newest, newest_of}
 use Rattle.pb_events.specs.declared.event.Stepped.{Stepped}
 use Rattle.pb_events.specs.declared.event.Stepped.TheVariants.{Went, Done, Busy, Fault}
 use Rattle.pb_core.specs.Client.{Stage, Idle, Storing, Looking, LoadsNumber, LoadsCode, LoadsValue, LoadsExtra, Confirming, Lacking, Taking, Holding, Client, ask_word, row_word, entry_by}
-use Rattle.pb_core.specs.Memory.{Owner, Free, Held, Closed, AtNumber, AtCode, AtFirst, AtSecond, AtThird, NoWork, Settling, Scanning, Filling, Noting, GivingUp, Resting, Doubtful, Memory, with_at, with_client, clients_of, known, side_of, round_of_turn}
+use Rattle.pb_core.specs.Memory.{Owner, Free, Held, Closed, AtNumber, AtCode, AtFirst, AtSecond, AtThird, NoWork, Settling, Scanning, Filling, Noting, GivingUp, Resting, Doubtful, Memory, with_at, with_client, clients_of, known_standing, side_of_operation, round_of_turn}
 
 -- Changes
 
@@ -70,17 +70,17 @@ own_row m turn c place = m.rows (round_of_turn turn % 2) c place
 -- Asking
 
 -- nobody opens the region again just now
-abbrev pub IsRunning : Owner → Type 0
-IsRunning Free = Unit {0}
-IsRunning (Held client side) = Unit {0}
-IsRunning Closed = ⊥
+abbrev pub IsNotReopening : Owner → Type 0
+IsNotReopening Free = Unit {0}
+IsNotReopening (Held client side) = Unit {0}
+IsNotReopening Closed = ⊥
 
 abbrev pub asks : ℕ → Ask → Memory → Memory
 asks c ask m = with_client c (record (m.book c) { stage = Storing 0; ask = ask; after = (m.book c).front }) m
 
 -- an idle client asks for something, under its next number
 pub record Asks (old : Memory) (ask : Ask) (new : Memory) : Type 0 where
-  pub running : IsRunning old.owner
+  pub running : IsNotReopening old.owner
   pub there : ask.client < clients_of old
   pub at : (old.book ask.client).stage ≡ Idle
   pub number : ask.number ≡ (newest (old.book ask.client).kept).number + 1
@@ -163,7 +163,7 @@ pub record FindsExtra (old : Memory) (c : ℕ) (new : Memory) (answer : Stepped)
   pub says : answer ≡ Went
 
 -- the turn is of the same round still: the reply counts, ..
-pub record IsAnswered (old : Memory) (c : ℕ) (new : Memory) (answer : Stepped) : Type 0 where
+pub record TakesReply (old : Memory) (c : ℕ) (new : Memory) (answer : Stepped) : Type 0 where
   pub turn : ℕ
   pub reply : Reply
   pub at : (old.book c).stage ≡ Confirming turn reply
@@ -190,14 +190,14 @@ pub record FindsHeld (old : Memory) (c : ℕ) (new : Memory) (answer : Stepped) 
 
 -- Taking the turn
 
--- the turn is as it was found: it is taken. Where the device is known for sure, the scan begins, ..
+-- the turn is as it was found: it is taken. Where the device is known_standing for sure, the scan begins, ..
 pub record TakesSure (old : Memory) (c : ℕ) (new : Memory) (answer : Stepped) : Type 0 where
   pub turn : ℕ
   pub found : ℕ
   pub at : (old.book c).stage ≡ Taking turn found
   pub same : old.turn ≡ turn
   pub sure : old.engine ≡ Resting
-  pub is : new ≡ record (steps_to c Holding old) { turn = turn + 1; owner = Held c (side_of (old.book c).ask.op); work = Scanning 0 AtNumber [] }
+  pub is : new ≡ record (steps_to c Holding old) { turn = turn + 1; owner = Held c (side_of_operation (old.book c).ask.op); work = Scanning 0 AtNumber [] }
   pub says : answer ≡ Went
 
 -- .. and else settling does
@@ -207,7 +207,7 @@ pub record TakesUnsure (old : Memory) (c : ℕ) (new : Memory) (answer : Stepped
   pub at : (old.book c).stage ≡ Taking turn found
   pub same : old.turn ≡ turn
   pub unsure : old.engine ≡ Doubtful
-  pub is : new ≡ record (steps_to c Holding old) { turn = turn + 1; owner = Held c (side_of (old.book c).ask.op); work = Settling }
+  pub is : new ≡ record (steps_to c Holding old) { turn = turn + 1; owner = Held c (side_of_operation (old.book c).ask.op); work = Settling }
   pub says : answer ≡ Went
 
 -- the turn is another one
@@ -223,7 +223,7 @@ pub record MissesTurn (old : Memory) (c : ℕ) (new : Memory) (answer : Stepped)
 
 -- a client's next number
 abbrev pub due_number : Memory → ℕ → ℕ
-due_number m d = (newest_of (known m) d).number + 1
+due_number m d = (newest_of (known_standing m) d).number + 1
 
 -- a client announces nothing that is due
 pub record PassesOver (old : Memory) (c : ℕ) (new : Memory) (answer : Stepped) : Type 0 where
@@ -297,7 +297,7 @@ pub record ScansRequest (old : Memory) (c : ℕ) (new : Memory) (answer : Steppe
   pub a : ℕ
   pub b : ℕ
   pub at : old.work ≡ Scanning d (AtThird number code a b) seen
-  pub same : side_of (scanned old d number code a b).op ≡ side
+  pub same : side_of_operation (scanned old d number code a b).op ≡ side
   pub is : new ≡ record old { work = Scanning (suc d) AtNumber (seen ++ scanned old d number code a b ∷ []) }
   pub says : answer ≡ Went
 
@@ -312,13 +312,13 @@ pub record ScansOther (old : Memory) (c : ℕ) (new : Memory) (answer : Stepped)
   pub a : ℕ
   pub b : ℕ
   pub at : old.work ≡ Scanning d (AtThird number code a b) seen
-  pub other : side_of (scanned old d number code a b).op ≢ side
+  pub other : side_of_operation (scanned old d number code a b).op ≢ side
   pub is : new ≡ record old { work = Scanning (suc d) AtNumber seen }
   pub says : answer ≡ Went
 
 -- Publishing
 
--- a word of the next reply row is stored: the kept reply that is known for sure, for each client its four words in order
+-- a word of the next reply row is stored: the kept reply that is known_standing for sure, for each client its four words in order
 pub record StoresRow (old : Memory) (c : ℕ) (new : Memory) (answer : Stepped) : Type 0 where
   pub side : ℕ
   pub holds : old.owner ≡ Held c side
@@ -328,7 +328,7 @@ pub record StoresRow (old : Memory) (c : ℕ) (new : Memory) (answer : Stepped) 
   pub few : place < 4
   pub at : old.work ≡ Filling (4 * d + place)
   pub is : new ≡ record old {
-    rows = with_row_word (next_row old) d place (row_word (newest_of (known old) d) place) old.rows;
+    rows = with_row_word (next_row old) d place (row_word (newest_of (known_standing old) d) place) old.rows;
     work = Filling (suc (4 * d + place));
   }
   pub says : answer ≡ Went
@@ -340,9 +340,9 @@ pub record PublishesOwn (old : Memory) (c : ℕ) (new : Memory) (answer : Steppe
   pub round : Round
   pub at : old.work ≡ Filling (4 * clients_of old)
   pub ahead : old.ahead ≡ Some round
-  pub own : (newest_of (known old) c).number ≡ (old.book c).ask.number
-  pub is : new ≡ with_answer c (newest_of (known old) c).reply (suc (length old.published)) (with_published round old)
-  pub says : answer ≡ Done (old.book c).ask (newest_of (known old) c).reply
+  pub own : (newest_of (known_standing old) c).number ≡ (old.book c).ask.number
+  pub is : new ≡ with_answer c (newest_of (known_standing old) c).reply (suc (length old.published)) (with_published round old)
+  pub says : answer ≡ Done (old.book c).ask (newest_of (known_standing old) c).reply
 
 -- .. and tries again where it hasn't
 pub record PublishesOthers (old : Memory) (c : ℕ) (new : Memory) (answer : Stepped) : Type 0 where
@@ -351,7 +351,7 @@ pub record PublishesOthers (old : Memory) (c : ℕ) (new : Memory) (answer : Ste
   pub round : Round
   pub at : old.work ≡ Filling (4 * clients_of old)
   pub ahead : old.ahead ≡ Some round
-  pub other : (newest_of (known old) c).number ≢ (old.book c).ask.number
+  pub other : (newest_of (known_standing old) c).number ≢ (old.book c).ask.number
   pub is : new ≡ with_client c (record (old.book c) { stage = Looking; front = suc (length old.published) }) (with_published round old)
   pub says : answer ≡ Busy (old.book c).ask (old.turn - 1) (old.turn + 1)
 
@@ -389,7 +389,7 @@ pub data WordMove (old : Memory) (c : ℕ) (new : Memory) (answer : Stepped) : T
   loading_code : FindsCode old c new answer → WordMove old c new answer
   loading_value : FindsValue old c new answer → WordMove old c new answer
   loading_extra : FindsExtra old c new answer → WordMove old c new answer
-  confirming : IsAnswered old c new answer → WordMove old c new answer
+  confirming : TakesReply old c new answer → WordMove old c new answer
   finding_new : FindsNewRound old c new answer → WordMove old c new answer
   finding_held : FindsHeld old c new answer → WordMove old c new answer
   taking_sure : TakesSure old c new answer → WordMove old c new answer
@@ -410,6 +410,6 @@ pub data WordMove (old : Memory) (c : ℕ) (new : Memory) (answer : Stepped) : T
 
 -- a client that is there makes a step, while the region isn't being opened again
 pub record IsWordStep (old : Memory) (c : ℕ) (new : Memory) (answer : Stepped) : Type 0 where
-  pub running : IsRunning old.owner
+  pub running : IsNotReopening old.owner
   pub there : c < clients_of old
   pub move : WordMove old c new answer

@@ -20,14 +20,14 @@ use Rattle.pb_layout.specs.Stages.{StagesRecord}
 use Rattle.pb_core.specs.Memory.{Memory}
 
 -- the calls of the device that are being made: the log when they began, those made since, and those to make
-pub data Progress : Type 0 where
-  NoCall : Progress
-  InCall : (entry made left : List LogOp) → Progress
+pub data CallProgress : Type 0 where
+  NoCall : CallProgress
+  InCall : (entry made left : List LogOp) → CallProgress
 
 pub record World : Type 0 where
   pub memory : Memory
   pub tale : Tale
-  pub progress : Progress
+  pub progress : CallProgress
 
 -- The calls of a round
 
@@ -36,9 +36,9 @@ pub record Put : Type 0 where
   pub position : ℕ
   pub value : ℕ
 
-abbrev pub cell_ops : Header → List Put → List LogOp
-cell_ops head [] = []
-cell_ops head (put ∷ puts) = put_cell_ops head put.position (cell_line_of put.position put.value) ++ cell_ops head puts
+abbrev pub ops_of_puts : Header → List Put → List LogOp
+ops_of_puts head [] = []
+ops_of_puts head (put ∷ puts) = put_cell_ops head put.position (cell_line_of put.position put.value) ++ ops_of_puts head puts
 
 -- items at the positions from one on
 abbrev pub puts_at : ℕ → List ℕ → List Put
@@ -57,9 +57,9 @@ puts_between before (Waits size queue) =
 abbrev pub puts_of : Standing → Round → List Put
 puts_of s round = puts_between s.state (after_round s round).state
 
-abbrev pub AreFree : State → List Put → Type 0
-AreFree state [] = Unit {0}
-AreFree state (put ∷ puts) = IsFreePosition state put.position × AreFree state puts
+abbrev pub AreFreePositions : State → List Put → Type 0
+AreFreePositions state [] = Unit {0}
+AreFreePositions state (put ∷ puts) = IsFreePosition state put.position × AreFreePositions state puts
 
 -- the write of a line of a record from a place on
 abbrev pub WritesLine : ℕ → List Line → LogOp → Type 0
@@ -74,11 +74,11 @@ WritesLine first lines Sync = ⊥
 pub record IsRoundPlan (tale : Tale) (s : Standing) (round : Round) (plan : List LogOp) : Type 0 where
   pub puts : List Put
   pub its_own : puts ≡ puts_of s round
-  pub free : AreFree s.state puts
-  pub cells : HasCells tale.base (tale.log ++ cell_ops (header_for s) puts) s round
+  pub free : AreFreePositions s.state puts
+  pub cells : HasCells tale.base (tale.log ++ ops_of_puts (header_for s) puts) s round
   pub lines : List Line
-  pub next : IsNextRecord (contents tale.base (tale.log ++ cell_ops (header_for s) puts)) s round lines
+  pub next : IsNextRecord (contents tale.base (tale.log ++ ops_of_puts (header_for s) puts)) s round lines
   pub writes : List LogOp
   pub new : AllByRecursion (WritesLine (spare_place (header_for s) round.side (rounds_of s round.side)) lines) writes
-  pub staged : StagesRecord (spare_place (header_for s) round.side (rounds_of s round.side)) lines (contents tale.base (tale.log ++ cell_ops (header_for s) puts)) writes
-  pub is : plan ≡ cell_ops (header_for s) puts ++ store_by writes (header_for s) round.side (rounds_of s round.side)
+  pub staged : StagesRecord (spare_place (header_for s) round.side (rounds_of s round.side)) lines (contents tale.base (tale.log ++ ops_of_puts (header_for s) puts)) writes
+  pub is : plan ≡ ops_of_puts (header_for s) puts ++ store_by writes (header_for s) round.side (rounds_of s round.side)

@@ -19,7 +19,7 @@ use Rattle.pb_events.specs.declared.event.Event.TheVariants.{Ask as AskEvent, St
 use Rattle.pb_events.specs.declared.event.Stepped.{Stepped}
 use Rattle.pb_events.specs.declared.event.Stepped.TheVariants.{Went}
 use Rattle.pb_core.specs.HolderMoves.{round_by, Begins, Records, SettlesNone, SettlesRound, FailsSettling, FailsBefore, FailsAfter}
-use Rattle.pb_core.specs.Memory.{Free, Held, Closed, Settling, Resting, Memory, clients_of, shown, known, with_round, coming, opened}
+use Rattle.pb_core.specs.Memory.{Free, Held, Closed, Settling, Resting, Memory, clients_of, shown, known_standing, with_round_ahead, coming, memory_at_opening}
 use Rattle.pb_core.specs.WordMoves.{Asks, IsWordStep}
 use Rattle.pb_core.specs.World.{NoCall, InCall, World, IsRoundPlan}
 
@@ -33,7 +33,7 @@ pub record BeginsCalls (old new : World) : Type 0 where
   pub move : Begins old.memory client next
   pub idle : old.progress ≡ NoCall
   pub plan : List LogOp
-  pub planned : IsRoundPlan old.tale (known old.memory) (round_by move.side (known old.memory) move.seen) plan
+  pub planned : IsRoundPlan old.tale (known_standing old.memory) (round_by move.side (known_standing old.memory) move.seen) plan
   pub is : new ≡ record { memory = next; tale = old.tale; progress = InCall old.tale.log [] plan }
 
 -- they are made
@@ -49,7 +49,7 @@ pub record EndsCalls (old new : World) : Type 0 where
 
 -- the calls that settling makes: to the round in doubt, where there is one
 abbrev pub settling_plan : Memory → List LogOp
-settling_plan m = settle_to (header_for (known m)) (with_round m.ahead (known m))
+settling_plan m = settle_to (header_for (known_standing m)) (with_round_ahead m.ahead (known_standing m))
 
 -- they begin
 pub record BeginsSettling (old new : World) : Type 0 where
@@ -201,7 +201,7 @@ pub record Crashes (old : World) (cut pick : ℕ) (new : World) (answer : Steppe
   pub whole : all_rounds old.memory ≡ kept ++ lost
   pub stands : Represents (picked old.tale.base old.tale.log cut pick) (state_after old.memory.start kept)
   pub is : new ≡ record {
-    memory = opened old.memory.start kept old.memory.answers;
+    memory = memory_at_opening old.memory.start kept old.memory.answers;
     tale = record { base = picked old.tale.base old.tale.log cut pick; log = [] };
     progress = NoCall;
   }

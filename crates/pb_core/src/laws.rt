@@ -5,7 +5,7 @@ ghost use Rattle.pb_object.specs.Standing.{Standing};
 ghost use Rattle.pb_events.specs.declared.event.Event.{Event};
 ghost use Rattle.pb_events.specs.declared.event.Stepped.{Stepped};
 ghost use Rattle.pb_core.specs.DeviceParts.{IsWorld};
-ghost use Rattle.pb_core.specs.Fresh.{IsFresh};
+ghost use Rattle.pb_core.specs.Fresh.{IsFreshWorld};
 ghost use Rattle.pb_core.specs.HolderMoves.{Begins};
 ghost use Rattle.pb_core.specs.Laws.{IsOneHistory, IsToldByLog, IsCaused, IsNoted, IsToAsker, IsScannedRound};
 ghost use Rattle.pb_core.specs.Memory.{Memory, clients_of};
@@ -18,7 +18,7 @@ ghost use Rattle.pb_core.specs.WorldMoves.{Next, Run};
 
 /// Over a region that was just formatted all that is to hold of the world holds.
 pub fn holds_at_first()
-    ensures { (head : Header) (w : World) → IsFresh head w → IsWorld w }
+    ensures { (head : Header) (w : World) → IsFreshWorld head w → IsWorld w }
 {}
 
 /// Each event keeps it: a step of a client on a word or on the device, one that fails, a crash, and opening the region again.
@@ -53,7 +53,7 @@ pub fn a_scan_sees_a_legal_round()
 /// twice, each answered request stands in it with its reply, and so it does in what each further crash may leave, whatever its image.
 pub fn every_run_has_one_history()
     ensures { (head : Header) (first last : World) (events : List Event) (answers : List Stepped)
-        → IsFresh head first
+        → IsFreshWorld head first
         → Run first events answers last
         → IsOneHistory head last answers }
 {}
@@ -105,7 +105,7 @@ pub fn what_is_played_is_a_run()
 /// What is played is determined: over a region that was just formatted there is at most one world, and from any world the same events make
 /// at most one, with at most one list of answers. That there is one for each event that is possible is for the code that plays to show.
 pub fn what_is_played_is_determined()
-    ensures first { (head : Header) (first other : World) → IsFresh head first → IsFresh head other → first ≡ other }
+    ensures first { (head : Header) (first other : World) → IsFreshWorld head first → IsFreshWorld head other → first ≡ other }
     ensures played { (old : World) (events : List Event) (answers others : List Stepped) (new other : World)
         → IsWorld old
         → Play old events answers new

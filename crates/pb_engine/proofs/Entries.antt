@@ -8,7 +8,7 @@ use Rattle.pb_object.specs.declared.request.Ask.{Ask}
 use Rattle.pb_object.specs.declared.request.TheConstants.{KEPT_REQUESTS}
 use Rattle.pb_object.specs.History.{Entry, kept_by}
 use Rattle.pb_object.specs.Object.{State, next_state}
-use Rattle.pb_layout.specs.NextRecord.{HasEntry, IsOfOther}
+use Rattle.pb_layout.specs.NextRecord.{HasEntryInFront, IsOfOther}
 use Rattle.pb_layout.specs.Record.{slot_line_at}
 use Rattle.pb_layout.specs.Slots.{PutsInFront}
 use Rattle.pb_engine.specs.Asks.{answered_by, answered_from, AskersRise}
@@ -19,7 +19,7 @@ use Rattle.pb_engine.proofs.Served.{AskersRiseFrom, rise_from_zero, answered_fro
 pub puts_none : (before lines : List Line) → PutsEntries before [] lines lines
 puts_none before lines = record {
   long = refl;
-  each = All-nil (HasEntry before lines);
+  each = All-nil (HasEntryInFront before lines);
   first = refl;
   others = λ client slot below others. refl;
 }
@@ -35,17 +35,17 @@ slots_stay before entry old new puts client slot apart below = puts.others (1 + 
     by_order (inl after) = inr (omega (arith, after))
     by_order (inr before_it) = inl (omega (arith, before_it, below))
 
-entries_stay : (before : List Line) (entry : Entry) (old new : List Line) (entries : List Entry) → PutsInFront before entry.client (kept_by entry) old new → All (IsOfOther entry.client) entries → All (HasEntry before old) entries → All (HasEntry before new) entries
-entries_stay before entry old new [] puts apart each = All-nil (HasEntry before new)
+entries_stay : (before : List Line) (entry : Entry) (old new : List Line) (entries : List Entry) → PutsInFront before entry.client (kept_by entry) old new → All (IsOfOther entry.client) entries → All (HasEntryInFront before old) entries → All (HasEntryInFront before new) entries
+entries_stay before entry old new [] puts apart each = All-nil (HasEntryInFront before new)
 entries_stay before entry old new (first ∷ entries) puts apart each =
-    let own = All-head (HasEntry before old) first entries each in
+    let own = All-head (HasEntryInFront before old) first entries each in
     let differ : entry.client ≢ first.client = λ same. All-head (IsOfOther entry.client) first entries apart (sym same) in
-    All-cons (HasEntry before new) first entries
+    All-cons (HasEntryInFront before new) first entries
     (record {
       newest = slots_stay before entry old new puts first.client 0 differ (omega arith) ∙ own.newest;
       shifted = λ slot below. slots_stay before entry old new puts first.client (suc slot) differ below ∙ own.shifted slot below;
     })
-    (entries_stay before entry old new entries puts (All-tail (IsOfOther entry.client) first entries apart) (All-tail (HasEntry before old) first entries each))
+    (entries_stay before entry old new entries puts (All-tail (IsOfOther entry.client) first entries apart) (All-tail (HasEntryInFront before old) first entries each))
 
 all_front : (P : Entry → Type 0) (entries more : List Entry) → All P (entries ++ more) → All P entries
 all_front P [] more all = All-nil P
@@ -60,8 +60,8 @@ all_last P (first ∷ entries) entry all = all_last P entries entry (All-tail P 
 pub puts_more : (before : List Line) (entries : List Entry) (entry : Entry) (old middle new : List Line) → PutsEntries before entries old middle → All (IsOfOther entry.client) entries → PutsInFront before entry.client (kept_by entry) middle new → length new ≡ length middle → PutsEntries before (entries ++ entry ∷ []) old new
 puts_more before entries entry old middle new so_far apart puts long = record {
   long = long ∙ so_far.long;
-  each = All-append (HasEntry before new) entries (entry ∷ []) (entries_stay before entry middle new entries puts apart so_far.each)
-      (All-cons (HasEntry before new) entry [] (record { newest = puts.newest; shifted = puts.shifted }) (All-nil (HasEntry before new)));
+  each = All-append (HasEntryInFront before new) entries (entry ∷ []) (entries_stay before entry middle new entries puts apart so_far.each)
+      (All-cons (HasEntryInFront before new) entry [] (record { newest = puts.newest; shifted = puts.shifted }) (All-nil (HasEntryInFront before new)));
   first = puts.others 0 (inl (omega arith)) ∙ so_far.first;
   others = λ client slot below others.
       slots_stay before entry middle new puts client slot (all_last (IsOfOther client) entries entry others) below

@@ -26,7 +26,7 @@ use Rattle.pb_layout_laws.proofs.ToldCalls.{from_told, told_then_sealed, sealed_
 use Rattle.pb_pair.proofs.Told.{told_now}
 use Rattle.pb_engine.specs.Calls.{EngineCall}
 use Rattle.pb_engine.specs.Good.{BeginsAt, IsInDoubtAfter, IsDecidedAfter, IsCovered, settlings, HasCome}
-use Rattle.pb_engine.specs.Opening.{IsFresh, IsAdopted, IsAdoptRefusal}
+use Rattle.pb_engine.specs.Opening.{IsFreshEngine, IsAdopted, IsAdoptRefusal}
 use Rattle.pb_engine.specs.View.{FailedRound, EngineView, was_called, settled_by, settled_standing}
 use Rattle.pb_engine.proofs.Called.{called_on}
 use Rattle.pb_engine.proofs.Coming.{ready_then, sealed_still, rises}
@@ -40,7 +40,7 @@ use Rattle.pb_engine.specs.Outcomes.{HasSettled, HasFailedToSettle}
 
 -- Where calls begin
 
-pub fresh_begins : (head : Header) (old : Device) (new : EngineView) (tale : Tale) → (fresh : IsFresh head old new) → (told : old.told ≡ Some tale) → (ready : IsReadyWith (None ∷ []) tale) → BeginsAt (with_ops (fresh.covers tale told ready).ops tale) (Some new.standing ∷ []) new
+pub fresh_begins : (head : Header) (old : Device) (new : EngineView) (tale : Tale) → (fresh : IsFreshEngine head old new) → (told : old.told ≡ Some tale) → (ready : IsReadyWith (None ∷ []) tale) → BeginsAt (with_ops (fresh.covers tale told ready).ops tale) (Some new.standing ∷ []) new
 fresh_begins head old new tale fresh told ready =
     let left = fresh.covers tale told ready in
     let tale_then : Tale = with_ops left.ops tale in

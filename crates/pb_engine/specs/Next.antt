@@ -4,7 +4,7 @@ use Rattle.pb_pmem.specs.declared.line.Line.{Line}
 use Rattle.pb_pmem.specs.Lines.{line_at}
 use Rattle.pb_object.specs.declared.request.TheConstants.{KEPT_REQUESTS}
 use Rattle.pb_object.specs.History.{Entry}
-use Rattle.pb_layout.specs.NextRecord.{HasEntry, IsOfOther}
+use Rattle.pb_layout.specs.NextRecord.{HasEntryInFront, IsOfOther}
 use Rattle.pb_layout.specs.Record.{count_line_of, slot_line_at}
 
 -- they are those of the record in use, but for the round number
@@ -16,7 +16,7 @@ pub record IsBegun (before : List Line) (round : ℕ) (lines : List Line) : Type
 -- these entries were put in front of their clients' slots of the record in use, and all other lines stay
 pub record PutsEntries (before : List Line) (entries : List Entry) (old new : List Line) : Type 0 where
   pub long : length new ≡ length old
-  pub each : All (HasEntry before new) entries
+  pub each : All (HasEntryInFront before new) entries
   pub first : line_at new 0 ≡ line_at old 0
   pub others : (client slot : ℕ) → slot < KEPT_REQUESTS → All (IsOfOther client) entries → slot_line_at new client slot ≡ slot_line_at old client slot
 

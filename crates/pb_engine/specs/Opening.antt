@@ -22,7 +22,7 @@ abbrev pub formatted_with : Bool → List Line → KnownRecords
 formatted_with there lines = record { in_use = if_known there lines; spare = None }
 
 -- an engine of a region that was just made: nothing was asked yet, and it is sure. There was no region before
-pub record IsFresh (head : Header) (old : Device) (new : EngineView) : Type 0 where
+pub record IsFreshEngine (head : Header) (old : Device) (new : EngineView) : Type 0 where
   pub standing : new.standing ≡ empty_for head
   pub doubt : new.doubt ≡ None
   pub sure : new.sure ≡ true

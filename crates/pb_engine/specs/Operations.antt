@@ -7,16 +7,12 @@ use Rattle.pb_object.specs.History.{Round, after_round}
 use Rattle.pb_object.specs.Object.{State, Registers, Items, Rising, Waits}
 use Rattle.pb_object.specs.Standing.{rounds_of}
 use Rattle.pb_layout.specs.declared.header.Header.{Header}
-use Rattle.pb_layout.specs.Cell.{cell_line_of}
+
 use Rattle.pb_layout.specs.NextRecord.{next_position}
-use Rattle.pb_layout.specs.PutCell.{put_cell_ops}
+use Rattle.pb_layout.specs.PutCell.{put_ops}
 use Rattle.pb_layout.specs.RegionOps.{spare_place, commit_ops, stage_over}
 use Rattle.pb_layout.specs.Represents.{header_for}
 use Rattle.pb_engine.specs.View.{EngineView, known_of}
-
--- the cell of an item by its position
-abbrev pub put_ops : Header → ℕ → ℕ → List LogOp
-put_ops head position value = put_cell_ops head position (cell_line_of position value)
 
 -- items are put into the cells of their positions, from one on, and each cell is given to the device
 unfoldable pub puts_from : Header → ℕ → List ℕ → List LogOp

@@ -18,7 +18,7 @@ ghost use Rattle.pb_layout.specs.RegionOps.{settle_to};
 ghost use Rattle.pb_layout.specs.Represents.{header_for};
 ghost use Rattle.pb_engine.specs.Operations.{round_ops};
 ghost use Rattle.pb_layout.specs.ToldExits.{IsReadyWith, StaysFound};
-ghost use Rattle.pb_engine.specs.Opening.{IsFresh, IsAdopted, IsAdoptRefusal};
+ghost use Rattle.pb_engine.specs.Opening.{IsFreshEngine, IsAdopted, IsAdoptRefusal};
 ghost use Rattle.pb_pmem.specs.declared.line.Line.{Line};
 ghost use Rattle.pb_layout.specs.Recovered.{Represents};
 ghost use Rattle.pb_pair.specs.declared.why.Why.{Why};
@@ -95,7 +95,7 @@ pub fn calls_after_calls()
 /// An engine that was just made on a device that was ready with no region begins on one that is ready with the empty standing alone.
 pub fn a_fresh_engine_begins()
     ensures { (head : Header) (old : Device) (new : EngineView) (tale : Tale)
-        → (fresh : IsFresh head old new)
+        → (fresh : IsFreshEngine head old new)
         → (told : old.told ≡ Some tale)
         → (ready : IsReadyWith (None ∷ []) tale)
         → BeginsAt (with_ops (fresh.covers tale told ready).ops tale) (Some new.standing ∷ []) new }

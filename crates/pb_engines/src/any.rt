@@ -26,7 +26,7 @@ impl<P: Pmem> AnyEngine<P> {
     ghost use Rattle.pb_layout.specs.Represents.{header_for};
     ghost use Rattle.pb_pair.specs.Open.{IsOpened};
     ghost use Rattle.pb_engine.specs.Covers.{SettleCovers, FailedSettleCovers};
-    ghost use Rattle.pb_engine.specs.Opening.{IsFresh, IsFreshRefusal, IsAdopted, IsAdoptRefusal};
+    ghost use Rattle.pb_engine.specs.Opening.{IsFreshEngine, IsFreshRefusal, IsAdopted, IsAdoptRefusal};
     ghost use Rattle.pb_engine.specs.Outcomes.{HasSettled, HasFailedToSettle};
     ghost use Rattle.pb_engine.specs.View.{IsEngine, was_called};
     ghost use Rattle.pb_engines.specs.AnyEngine.{view_of};
@@ -38,7 +38,7 @@ impl<P: Pmem> AnyEngine<P> {
     /// region, and leaves it as it was. `Device` comes only where a call of the device failed: there is no region still, or the whole
     /// empty one.
     pub fn fresh(alloc: Global, head: &Header, device: P) -> Result<AnyEngine<P>, Refused<P>>
-        ensures ok { IfOk result (λ engine. IsFresh head.now (P.seen device) (view_of engine)) }
+        ensures ok { IfOk result (λ engine. IsFreshEngine head.now (P.seen device) (view_of engine)) }
         ensures err { IfErr result (λ refused. IsFreshRefusal head.now (P.seen device) (P.seen refused.device) refused.why) }
     {
         match head.kind {

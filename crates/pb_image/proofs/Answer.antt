@@ -18,7 +18,7 @@ use Rattle.pb_crash.specs.declared.leaves.Leaves.{Leaves}
 use Rattle.pb_crash.specs.declared.leaves.Leaves.TheVariants.{Left, Done, Torn, Fenced}
 use Rattle.pb_crash.specs.Leaves.{left_by}
 use Rattle.pb_image.specs.Fails.{added_by, faults_after, counted}
-use Rattle.pb_image.specs.State.{ImageView, seen_of, failure_of, failure_of_read, after_call, after_read, IsLeftBy}
+use Rattle.pb_image.specs.State.{ImageView, seen_of, failure_of, failure_of_read, after_device_call, after_read, IsLeftBy}
 
 -- a count of 64 bits that is raised rose
 pub Rose-raised : (n : ℕ) → n ≤ last_count → Rose n (raised n)
@@ -49,7 +49,7 @@ Fails-step call op old how small =
     go (Some other) e = inr (other, (how, e), refl)
 
 -- what a call does where it answers Ok
-pub OnOk-Adds : (call : Call) (op : LogOp) (old new : ImageView) (result : Result (Unit {0}) PmemFault) → is_ok result ≡ is_none (failure_of call old) → new ≡ after_call call op old → OnOk result (Adds op (seen_of old) (seen_of new))
+pub OnOk-Adds : (call : Call) (op : LogOp) (old new : ImageView) (result : Result (Unit {0}) PmemFault) → is_ok result ≡ is_none (failure_of call old) → new ≡ after_device_call call op old → OnOk result (Adds op (seen_of old) (seen_of new))
 OnOk-Adds call op old new result answer after = go (failure_of call old) result answer after
   where
     go : (how : Option Leaves) (result : Result (Unit {0}) PmemFault) → is_ok result ≡ is_none how → new ≡ step how call op old → OnOk result (Adds op (seen_of old) (seen_of new))
@@ -58,7 +58,7 @@ OnOk-Adds call op old new result answer after = go (failure_of call old) result 
     go (Some h) (Ok x) e same = cc
 
 -- what it does where it answers an error
-pub OnErr-Fails : (call : Call) (op : LogOp) (old new : ImageView) (result : Result (Unit {0}) PmemFault) → old.faults ≤ last_count → is_ok result ≡ is_none (failure_of call old) → new ≡ after_call call op old → OnErr result (Fails (IsLeftBy op) (seen_of old) (seen_of new))
+pub OnErr-Fails : (call : Call) (op : LogOp) (old new : ImageView) (result : Result (Unit {0}) PmemFault) → old.faults ≤ last_count → is_ok result ≡ is_none (failure_of call old) → new ≡ after_device_call call op old → OnErr result (Fails (IsLeftBy op) (seen_of old) (seen_of new))
 OnErr-Fails call op old new result small answer after = go (failure_of call old) result answer after
   where
     go : (how : Option Leaves) (result : Result (Unit {0}) PmemFault) → is_ok result ≡ is_none how → new ≡ step how call op old → OnErr result (Fails (IsLeftBy op) (seen_of old) (seen_of new))

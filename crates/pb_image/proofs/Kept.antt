@@ -17,15 +17,15 @@ use Rattle.pb_crash.specs.declared.leaves.Leaves.TheVariants.{Left, Done, Torn, 
 use Rattle.pb_crash.specs.Leaves.{left_by}
 use Rattle.pb_image.specs.Fails.{failure, added_by}
 use Rattle.pb_crash.specs.Within.{is_within}
-use Rattle.pb_image.specs.State.{ImageView, IsKept, failure_of}
+use Rattle.pb_image.specs.State.{ImageView, AreImageParts, failure_of}
 
 -- there are as many lines now as at the start
-pub length-lines : {base lines : List Line} {log : List LogOp} {room capacity : ℕ} → IsKept base lines log room capacity → length base ≡ LINES → length lines ≡ LINES
+pub length-lines : {base lines : List Line} {log : List LogOp} {room capacity : ℕ} → AreImageParts base lines log room capacity → length base ≡ LINES → length lines ≡ LINES
 length-lines {base} {lines} {log} kept whole =
     ap length kept.replayed ∙ (length-contents base log ∙ whole)
 
 -- a device that was just made
-pub IsKept-none : {base lines : List Line} {log : List LogOp} {room capacity : ℕ} → lines ≡ base → log ≡ [] → room ≤ capacity → IsKept base lines log room capacity
+pub IsKept-none : {base lines : List Line} {log : List LogOp} {room capacity : ℕ} → lines ≡ base → log ≡ [] → room ≤ capacity → AreImageParts base lines log room capacity
 IsKept-none {base} {lines} {log} same empty fits =
     record {
       replayed = same ∙ sym (ap (contents base) empty ∙ contents-none base);
@@ -35,7 +35,7 @@ IsKept-none {base} {lines} {log} same empty fits =
     }
 
 -- some more operations, for which there is room
-pub IsKept-more : {base lines lines' : List Line} {log log' : List LogOp} {room capacity capacity' : ℕ} (more : List LogOp) → IsKept base lines log room capacity → lines' ≡ contents lines more → log' ≡ log ++ more → capacity ≤ capacity' → IsTrue (list_all is_within more) → length log + length more ≤ room → IsKept base lines' log' room capacity'
+pub IsKept-more : {base lines lines' : List Line} {log log' : List LogOp} {room capacity capacity' : ℕ} (more : List LogOp) → AreImageParts base lines log room capacity → lines' ≡ contents lines more → log' ≡ log ++ more → capacity ≤ capacity' → IsTrue (list_all is_within more) → length log + length more ≤ room → AreImageParts base lines' log' room capacity'
 IsKept-more {base} {lines} {lines'} {log} {log'} more kept same longer large within fits =
     record {
       replayed = same ∙ (ap (λ l. contents l more) kept.replayed ∙ (sym (contents-append base log more) ∙ ap (contents base) (sym longer)));

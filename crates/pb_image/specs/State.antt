@@ -53,15 +53,15 @@ after_read image = record image {
 }
 
 -- the device after a call of this kind that adds an operation
-abbrev pub after_call : Call → LogOp → ImageView → ImageView
-after_call call op image = record image {
+abbrev pub after_device_call : Call → LogOp → ImageView → ImageView
+after_device_call call op image = record image {
   log = image.log ++ option_to_list (added_by op (failure_of call image));
   calls = counted call image.calls;
   faults = faults_after (failure_of call image) image.faults;
 }
 
 -- what holds of the parts of a device in memory
-pub record IsKept (base lines : List Line) (log : List LogOp) (room capacity : ℕ) : Type 0 where
+pub record AreImageParts (base lines : List Line) (log : List LogOp) (room capacity : ℕ) : Type 0 where
   pub replayed : lines ≡ contents base log
   pub within : IsTrue (list_all is_within log)
   pub fits : length log ≤ room

@@ -28,7 +28,7 @@ pub struct Image {
 
 impl Model for Image {
     ghost use Rattle.std.specs.Prelude.{vec_capacity};
-    ghost use Rattle.pb_image.specs.State.{ImageView, IsKept};
+    ghost use Rattle.pb_image.specs.State.{ImageView, AreImageParts};
 
     ghost Value = { ImageView };
 
@@ -42,7 +42,7 @@ impl Model for Image {
       whole = i.whole;
     } };
 
-    ghost invariant = { λ i. IsKept i.base.items i.lines.items i.log.items i.room (vec_capacity i.log) };
+    ghost invariant = { λ i. AreImageParts i.base.items i.lines.items i.log.items i.room (vec_capacity i.log) };
 }
 
 impl Image {
@@ -135,7 +135,7 @@ impl Image {
 impl Image {
     ghost use Rattle.pb_pmem.specs.Device.{Adds, Fails};
     ghost use Rattle.pb_crash.specs.Within.{is_within};
-    ghost use Rattle.pb_image.specs.State.{ImageView, failure_of, failure_of_read, after_call, after_read, seen_of, IsLeftBy};
+    ghost use Rattle.pb_image.specs.State.{ImageView, failure_of, failure_of_read, after_device_call, after_read, seen_of, IsLeftBy};
 
     /// Replaces what is to fail, and counts calls from 1 from now on.
     pub fn failing(&mut self, fails: Vec<Fail>)
@@ -171,7 +171,7 @@ impl Image {
     fn call(&mut self, call: Call, op: LogOp) -> Result<(), PmemFault>
         requires { IsTrue (is_within op) }
         ensures answer { is_ok result ≡ is_none (failure_of call self.old) }
-        ensures after { self.new ≡ after_call call op self.old }
+        ensures after { self.new ≡ after_device_call call op self.old }
         ensures ok { OnOk result (Adds op (seen_of self.old) (seen_of self.new)) }
         ensures err { OnErr result (Fails (IsLeftBy op) (seen_of self.old) (seen_of self.new)) }
     {
@@ -189,7 +189,7 @@ impl Pmem for Image {
     ghost use Rattle.pb_pmem.specs.declared.log.LogOp.{LogOp};
     ghost use Rattle.pb_pmem.specs.Device.{Adds, Fails, Reads, IsNoOp, IsWholeOf, Is, IsMark};
     ghost use Rattle.pb_pmem.proofs.Lines.{length-contents};
-    ghost use Rattle.pb_image.specs.State.{seen_of, failure_of, failure_of_read, after_call, after_read};
+    ghost use Rattle.pb_image.specs.State.{seen_of, failure_of, failure_of_read, after_device_call, after_read};
 
     ghost seen = { seen_of };
 
@@ -216,7 +216,7 @@ impl Pmem for Image {
         ensures ok { OnOk result (Adds (LogOp.Whole line from.now) (seen_of self.old) (seen_of self.new)) }
         ensures err { OnErr result (Fails (IsWholeOf line) (seen_of self.old) (seen_of self.new)) }
         ensures answer { is_ok result ≡ is_none (failure_of Call.Write self.old) }
-        ensures after { self.new ≡ after_call Call.Write (LogOp.Whole line from.now) self.old }
+        ensures after { self.new ≡ after_device_call Call.Write (LogOp.Whole line from.now) self.old }
     {
         self.call(Call::Write, LogOp::Whole { line, to: *from })
     }
@@ -227,7 +227,7 @@ impl Pmem for Image {
         ensures ok { OnOk result (Adds (LogOp.Word line word value) (seen_of self.old) (seen_of self.new)) }
         ensures err { OnErr result (Fails (Is (LogOp.Word line word value)) (seen_of self.old) (seen_of self.new)) }
         ensures answer { is_ok result ≡ is_none (failure_of Call.SetWord self.old) }
-        ensures after { self.new ≡ after_call Call.SetWord (LogOp.Word line word value) self.old }
+        ensures after { self.new ≡ after_device_call Call.SetWord (LogOp.Word line word value) self.old }
     {
         let op = LogOp::Word {
             line,
@@ -242,7 +242,7 @@ impl Pmem for Image {
         ensures ok { OnOk result (Adds (LogOp.Back first count) (seen_of self.old) (seen_of self.new)) }
         ensures err { OnErr result (Fails (Is (LogOp.Back first count)) (seen_of self.old) (seen_of self.new)) }
         ensures answer { is_ok result ≡ is_none (failure_of Call.WriteBack self.old) }
-        ensures after { self.new ≡ after_call Call.WriteBack (LogOp.Back first count) self.old }
+        ensures after { self.new ≡ after_device_call Call.WriteBack (LogOp.Back first count) self.old }
     {
         self.call(Call::WriteBack, LogOp::Back { first, count })
     }
@@ -251,7 +251,7 @@ impl Pmem for Image {
         ensures ok { OnOk result (Adds LogOp.Fence (seen_of self.old) (seen_of self.new)) }
         ensures err { OnErr result (Fails (Is LogOp.Fence) (seen_of self.old) (seen_of self.new)) }
         ensures answer { is_ok result ≡ is_none (failure_of Call.Fence self.old) }
-        ensures after { self.new ≡ after_call Call.Fence LogOp.Fence self.old }
+        ensures after { self.new ≡ after_device_call Call.Fence LogOp.Fence self.old }
     {
         self.call(Call::Fence, LogOp::Fence)
     }
@@ -260,7 +260,7 @@ impl Pmem for Image {
         ensures ok { OnOk result (Adds LogOp.Sync (seen_of self.old) (seen_of self.new)) }
         ensures err { OnErr result (Fails IsMark (seen_of self.old) (seen_of self.new)) }
         ensures answer { is_ok result ≡ is_none (failure_of Call.Sync self.old) }
-        ensures after { self.new ≡ after_call Call.Sync LogOp.Sync self.old }
+        ensures after { self.new ≡ after_device_call Call.Sync LogOp.Sync self.old }
     {
         self.call(Call::Sync, LogOp::Sync)
     }

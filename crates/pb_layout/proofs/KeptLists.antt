@@ -15,7 +15,7 @@ use Rattle.pb_object.specs.KeptLists.{IsKeptList, HasKeptLists}
 use Rattle.pb_object.specs.Standing.{Standing, side_count, rounds_of, kept_list_of}
 use Rattle.pb_object.proofs.KeptLists.{FallsBelow, kept_list-falls}
 use Rattle.pb_layout.specs.Header.{slot_count, word}
-use Rattle.pb_layout.specs.Once.{number_of, numbers_of}
+use Rattle.pb_layout.specs.Once.{newest_number_of, numbers_of}
 use Rattle.pb_layout.specs.Record.{client_line_at, kept_from, kept_in_slots, number_sum, AreSlots}
 use Rattle.pb_layout.specs.Recovered.{Represents}
 use Rattle.pb_layout.specs.Represents.{record_of_side, newest_of_two, kept_list_by, number_at, AreApart, RegionParts, AreRecords}
@@ -209,34 +209,34 @@ region_keeps_lists image s stands =
 -- Rounds and numbers
 
 -- a list's newest number is at most the last one
-newest_few : (kept : List Kept) → IsKeptList kept → number_of kept ≤ LAST_NUMBER
+newest_few : (kept : List Kept) → IsKeptList kept → newest_number_of kept ≤ LAST_NUMBER
 newest_few [] is = omega arith
 newest_few (kept ∷ rest) is = (is.numbers 0 kept (omega arith)).few
 
 pub numbers_few : (s : Standing) → HasKeptLists s → s.clients ≤ MOST_CLIENTS → numbers_of s ≤ MOST_CLIENTS * LAST_NUMBER
 numbers_few s has few =
-    omega (arith, sum_by-le number_of LAST_NUMBER s.kept (All-from_get_or IsFew s.kept [] (λ client inside. newest_few (kept_list_of s client) (has.lists client (omega (arith, inside, has.count))))), has.count, few)
+    omega (arith, sum_by-le newest_number_of LAST_NUMBER s.kept (All-from_get_or IsFew s.kept [] (λ client inside. newest_few (kept_list_of s client) (has.lists client (omega (arith, inside, has.count))))), has.count, few)
   where
     IsFew : List Kept → Type 0
-    IsFew kept = number_of kept ≤ LAST_NUMBER
+    IsFew kept = newest_number_of kept ≤ LAST_NUMBER
 
 pub region_numbers_few : (image : List Line) (s : Standing) → Represents image s → numbers_of s ≤ MOST_CLIENTS * LAST_NUMBER
 region_numbers_few image s stands =
     numbers_few s (region_keeps_lists image s stands) (parts image s stands).valid.few_clients
 
 -- a client's newest number on a side is at most its newest of all
-newest_of_side : (kind : Kind) (clients size : ℕ) (records : ℕ → List Line) (client side : ℕ) → side < side_count kind → AllSlots (record { kind = kind; clients = clients; size = size }) records → client < clients → word (client_line_at (records side) client) 0 ≤ number_of (kept_list_by kind records client)
+newest_of_side : (kind : Kind) (clients size : ℕ) (records : ℕ → List Line) (client side : ℕ) → side < side_count kind → AllSlots (record { kind = kind; clients = clients; size = size }) records → client < clients → word (client_line_at (records side) client) 0 ≤ newest_number_of (kept_list_by kind records client)
 newest_of_side kind clients size records client side here slots inside = by kind side here (of_slots side here)
   where
     head : Header
     head = record { kind = kind; clients = clients; size = size }
 
-    of_slots : (n : ℕ) → n < side_count kind → word (client_line_at (records n) client) 0 ≡ number_of (kept_in_slots (records n) client)
+    of_slots : (n : ℕ) → n < side_count kind → word (client_line_at (records n) client) 0 ≡ newest_number_of (kept_in_slots (records n) client)
     of_slots n below =
         let at : 1 + (KEPT_REQUESTS * client + 0) ≡ 1 + KEPT_REQUESTS * client = omega arith in
         ap (λ (k : ℕ). word (line_at (records n) k) 0) at ∙ sym (newest-kept_from (records n) (1 + KEPT_REQUESTS * client) 7 (slots_fall head n (records n) client (slots n below) inside))
 
-    by : (k : Kind) (n : ℕ) → n < side_count k → word (client_line_at (records n) client) 0 ≡ number_of (kept_in_slots (records n) client) → word (client_line_at (records n) client) 0 ≤ number_of (kept_list_by k records client)
+    by : (k : Kind) (n : ℕ) → n < side_count k → word (client_line_at (records n) client) 0 ≡ newest_number_of (kept_in_slots (records n) client) → word (client_line_at (records n) client) 0 ≤ newest_number_of (kept_list_by k records client)
     by Map zero below is = omega (arith, is)
     by Stack zero below is = omega (arith, is)
     by Heap zero below is = omega (arith, is)
@@ -247,20 +247,20 @@ newest_of_side kind clients size records client side here slots inside = by kind
     by k (suc n) below is = absurd (omega arith)
 
 -- the newest numbers on a side sum to at most those of all
-sums_along : (image : List Line) (s : Standing) (side count : ℕ) → side < side_count s.kind → RegionParts image s → count ≤ s.clients → number_sum (record_of_side image s side) count ≤ sum_by number_of (take count s.kept)
+sums_along : (image : List Line) (s : Standing) (side count : ℕ) → side < side_count s.kind → RegionParts image s → count ≤ s.clients → number_sum (record_of_side image s side) count ≤ sum_by newest_number_of (take count s.kept)
 sums_along image s side zero here has fits = omega (arith, number_sum-none (record_of_side image s side))
 sums_along image s side (suc count) here has fits =
     let lines = record_of_side image s side in
     let before = sums_along image s side count here has (omega arith) in
     let next : suc count ≡ count + 1 = omega arith in
-    let more : sum_by number_of (take (suc count) s.kept) ≡ sum_by number_of (take count s.kept) + number_of (kept_list_of s count) = ap (λ (n : ℕ). sum_by number_of (take n s.kept)) next ∙ sum_by_more number_of s.kept count [] (omega (arith, fits, has.clients)) in
-    let one : word (client_line_at lines count) 0 ≤ number_of (kept_list_by s.kind (record_of_side image s) count) = newest_of_side s.kind s.clients s.size (record_of_side image s) count side here (λ n below. (has.records n below).slots) (omega arith) in
-    let same = ap number_of (has.kept count (omega arith)) in
+    let more : sum_by newest_number_of (take (suc count) s.kept) ≡ sum_by newest_number_of (take count s.kept) + newest_number_of (kept_list_of s count) = ap (λ (n : ℕ). sum_by newest_number_of (take n s.kept)) next ∙ sum_by_more newest_number_of s.kept count [] (omega (arith, fits, has.clients)) in
+    let one : word (client_line_at lines count) 0 ≤ newest_number_of (kept_list_by s.kind (record_of_side image s) count) = newest_of_side s.kind s.clients s.size (record_of_side image s) count side here (λ n below. (has.records n below).slots) (omega arith) in
+    let same = ap newest_number_of (has.kept count (omega arith)) in
     omega (arith, number_sum-more lines count, before, more, one, same)
 
 pub side_numbers_few : (image : List Line) (s : Standing) (side : ℕ) → Represents image s → side < side_count s.kind → number_sum (record_of_side image s side) s.clients ≤ numbers_of s
 side_numbers_few image s side stands here =
-    omega (arith, sums_along image s side s.clients here (parts image s stands) (omega arith), sum_by-take-le number_of s.kept s.clients)
+    omega (arith, sums_along image s side s.clients here (parts image s stands) (omega arith), sum_by-take-le newest_number_of s.kept s.clients)
 
 pub side_rounds_numbers : (image : List Line) (s : Standing) (side : ℕ) → Represents image s → side < side_count s.kind → rounds_of s side ≤ number_sum (record_of_side image s side) s.clients
 side_rounds_numbers image s side stands here = ((parts image s stands).records side here).rounds

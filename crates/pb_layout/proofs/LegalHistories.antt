@@ -6,7 +6,7 @@ use Rattle.std.proofs.lemmas.List.Sums.{sum_by-set}
 use Rattle.pb_object.specs.declared.request.Kept.{Kept}
 use Rattle.pb_object.specs.History.{Entry, Round, History, kept_by, after_entry, after_entries, after_round, state_after, AreLegal, IsLegal}
 use Rattle.pb_object.specs.Standing.{Standing, keep}
-use Rattle.pb_layout.specs.Once.{entries_of, HasNumbersOnce, number_of, numbers_of}
+use Rattle.pb_layout.specs.Once.{entries_of, HasNumbersOnce, newest_number_of, numbers_of}
 
 -- the entries of no history
 pub entries_of-none : entries_of [] ≡ []
@@ -20,7 +20,7 @@ entries_of-first round history = refl
 
 -- a client's newest number
 abbrev pub number_at : List (List Kept) → ℕ → ℕ
-number_at kept client = number_of (get_or kept client [])
+number_at kept client = newest_number_of (get_or kept client [])
 
 -- what is kept of the clients after an entry
 abbrev pub kept_after : Entry → List Kept → List Kept
@@ -69,11 +69,11 @@ number_after kept first client number within next below = go (cases_eq client fi
   where
     go : (client ≡ first.client) ⊎ (client ≢ first.client) → number_at kept client < number
     go (inl same) =
-        let here : number_at (kept_with kept first) client ≡ first.number = ap (number_at (kept_with kept first)) same ∙ ap number_of (get_or-set_same kept first.client (kept_after first (get_or kept first.client [])) [] within) in
+        let here : number_at (kept_with kept first) client ≡ first.number = ap (number_at (kept_with kept first)) same ∙ ap newest_number_of (get_or-set_same kept first.client (kept_after first (get_or kept first.client [])) [] within) in
         let there : number_at kept client ≡ number_at kept first.client = ap (number_at kept) same in
         omega (arith, here, there, next, below)
     go (inr other) =
-        let there : number_at (kept_with kept first) client ≡ number_at kept client = ap number_of (get_or-set_other kept first.client client (kept_after first (get_or kept first.client [])) [] other) in
+        let there : number_at (kept_with kept first) client ≡ number_at kept client = ap newest_number_of (get_or-set_other kept first.client client (kept_after first (get_or kept first.client [])) [] other) in
         omega (arith, there, below)
 
 -- an entry's number is above the one that is kept of its client before
@@ -93,7 +93,7 @@ follow-rise kept (entry ∷ entries) (suc a) (suc b) first second follow below a
     follow-rise (kept_with kept entry) entries a b first second follow.2 (omega arith) at_a at_b same
 follow-rise kept (entry ∷ entries) zero (suc b) first second follow below at_a at_b same =
     let e : entry ≡ first = some_same entry first at_a in
-    let here : number_at (kept_with kept entry) entry.client ≡ entry.number = ap number_of (get_or-set_same kept entry.client (kept_after entry (get_or kept entry.client [])) [] follow.0) in
+    let here : number_at (kept_with kept entry) entry.client ≡ entry.number = ap newest_number_of (get_or-set_same kept entry.client (kept_after entry (get_or kept entry.client [])) [] follow.0) in
     let client : second.client ≡ entry.client = sym (ap (λ (x : Entry). x.client) e ∙ same) in
     let above : number_at (kept_with kept entry) second.client < second.number = follow-above (kept_with kept entry) entries b second follow.2 at_b in
     let there : number_at (kept_with kept entry) second.client ≡ entry.number = ap (number_at (kept_with kept entry)) client ∙ here in
@@ -116,7 +116,7 @@ numbers_stand_once s history all legal a b first second at_a at_b client number 
 after_entries-sum : (s : Standing) (side : ℕ) (entries : List Entry) → KeepsAll s → AreLegal s side entries → numbers_of (after_entries s entries) ≡ length entries + numbers_of s
 after_entries-sum s side [] all legal = omega arith
 after_entries-sum s side (entry ∷ entries) all legal =
-    let one : numbers_of (after_entry s entry) + number_at s.kept entry.client ≡ numbers_of s + entry.number = sum_by-set number_of s.kept entry.client (kept_after entry (get_or s.kept entry.client [])) [] (subst (λ n. entry.client < n) (sym all) legal.0.client) in
+    let one : numbers_of (after_entry s entry) + number_at s.kept entry.client ≡ numbers_of s + entry.number = sum_by-set newest_number_of s.kept entry.client (kept_after entry (get_or s.kept entry.client [])) [] (subst (λ n. entry.client < n) (sym all) legal.0.client) in
     let rest : numbers_of (after_entries (after_entry s entry) entries) ≡ length entries + numbers_of (after_entry s entry) = after_entries-sum (after_entry s entry) side entries (after_entry-keeps s entry all) legal.1 in
     omega (arith, one, rest, legal.0.number)
 

@@ -20,7 +20,7 @@ use Rattle.pb_layout.specs.Represents.{header_for, record_of_side, object_parts,
 use Rattle.pb_layout.specs.declared.header.Header.{Header}
 
 -- an entry stands in front of its client's slots of the record before, and the oldest one goes
-pub record HasEntry (before lines : List Line) (entry : Entry) : Type 0 where
+pub record HasEntryInFront (before lines : List Line) (entry : Entry) : Type 0 where
   pub newest : client_line_at lines entry.client ≡ client_line_of (kept_by entry)
   pub shifted : (slot : ℕ) → suc slot < KEPT_REQUESTS → slot_line_at lines entry.client (suc slot) ≡ slot_line_at before entry.client slot
 
@@ -34,7 +34,7 @@ pub record IsNextOf (records : ℕ → List Line) (s : Standing) (round : Round)
   pub legal : IsLegalRound s round
   pub long : length lines ≡ record_length (header_for s)
   pub carries : line_at lines 0 ≡ count_line_of (rounds_of s round.side + 1)
-  pub entries : All (HasEntry (records round.side) lines) round.entries
+  pub entries : All (HasEntryInFront (records round.side) lines) round.entries
   pub others : (client slot : ℕ) → client < s.clients → slot < KEPT_REQUESTS → All (IsOfOther client) round.entries → slot_line_at lines client slot ≡ slot_line_at (records round.side) client slot
   pub state : LinesRepresent (object_parts (header_for s) (with_record records round.side lines)) (after_round s round).state
 

@@ -20,9 +20,9 @@ HasNumbersOnce history =
     → a ≡ b
 
 -- the newest number of kept requests
-abbrev pub number_of : List Kept → ℕ
-number_of kept = (newest kept).number
+abbrev pub newest_number_of : List Kept → ℕ
+newest_number_of kept = (newest kept).number
 
 -- the sum of all clients' newest numbers
 abbrev pub numbers_of : Standing → ℕ
-numbers_of s = sum_by number_of s.kept
+numbers_of s = sum_by newest_number_of s.kept

@@ -35,3 +35,7 @@ HaveCells base log head from (Items size items) = Unit {0}
 HaveCells base log head from (Rising size items) = Unit {0}
 HaveCells base log head from (Waits size queue) =
     (place : ℕ) → place < length queue.items → from ≤ queue.taken + place → HasCell base log head (queue.taken + place) (cell_line_of (queue.taken + place) (slice_index queue.items place))
+
+-- the operations of putting an item into the cell of its position
+abbrev pub put_ops : Header → ℕ → ℕ → List LogOp
+put_ops head position value = put_cell_ops head position (cell_line_of position value)

@@ -9,7 +9,7 @@ use Rattle.pb_object.specs.declared.request.Kept.{Kept}
 use Rattle.pb_object.specs.declared.request.TheConstants.{LAST_NUMBER}
 use Rattle.pb_object.specs.History.{Entry, History, AreLegal, IsLegal, kept_by, after_entry, after_entries, after_round}
 use Rattle.pb_object.specs.Standing.{Standing, keep, kept_list_of, rounds_of, side_count}
-use Rattle.pb_layout.specs.Once.{number_of}
+use Rattle.pb_layout.specs.Once.{newest_number_of}
 use Rattle.pb_layout.specs.Record.{number_sum, AreSmall}
 use Rattle.pb_layout.specs.Recovered.{Represents}
 use Rattle.pb_layout.specs.Represents.{header_for, record_of_side, AreRecords}
@@ -46,7 +46,7 @@ rounds_fit image s stands = omega (arith, side_rounds_few image s 0 stands, side
 
 -- how many numbers a client has left
 abbrev left_to : List Kept → ℕ
-left_to kept = LAST_NUMBER - number_of kept
+left_to kept = LAST_NUMBER - newest_number_of kept
 
 abbrev room : Standing → ℕ
 room s = sum_by left_to s.kept
@@ -56,7 +56,7 @@ entries_take : (s : Standing) (side : ℕ) (entries : List Entry) → KeepsAll s
 entries_take s side [] all legal = omega arith
 entries_take s side (entry ∷ entries) all legal =
     let inside : entry.client < length s.kept = subst (λ (n : ℕ). entry.client < n) (sym all) legal.0.client in
-    let one : sum_by left_to (after_entry s entry).kept + (LAST_NUMBER - number_of (kept_list_of s entry.client)) ≡ sum_by left_to s.kept + (LAST_NUMBER - entry.number) = sum_by-set left_to s.kept entry.client (keep (kept_by entry) (kept_list_of s entry.client)) [] inside in
+    let one : sum_by left_to (after_entry s entry).kept + (LAST_NUMBER - newest_number_of (kept_list_of s entry.client)) ≡ sum_by left_to s.kept + (LAST_NUMBER - entry.number) = sum_by-set left_to s.kept entry.client (keep (kept_by entry) (kept_list_of s entry.client)) [] inside in
     let rest = entries_take (after_entry s entry) side entries (after_entries-keeps s (entry ∷ []) all) legal.1 in
     omega (arith, one, rest, legal.0.number, legal.0.few)
 

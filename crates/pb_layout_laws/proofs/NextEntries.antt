@@ -19,7 +19,7 @@ use Rattle.pb_layout.specs.Represents.{header_for, record_at, record_in_use, rec
 use Rattle.pb_layout.specs.declared.header.Header.{Header}
 use Rattle.pb_layout.proofs.OneRecovery.{region_records}
 use Rattle.pb_layout.proofs.Readers.{named_by_line}
-use Rattle.pb_layout.specs.NextRecord.{HasEntry, IsOfOther, IsNextRecord}
+use Rattle.pb_layout.specs.NextRecord.{HasEntryInFront, IsOfOther, IsNextRecord}
 use Rattle.pb_layout_laws.proofs.NextRecord.{number_kept}
 use Rattle.pb_layout_laws.proofs.Rounds.{RiseFrom, rise_from_zero, rise-others, after_entry-other, next_side}
 
@@ -109,10 +109,10 @@ entries_between-are before after count entries rise are others =
 
 -- legal entries are between a record whose numbers are at most the last, and one that has the entries' lines
 pub legal_between : (before after : List Line) (s t : Standing) (side floor : ℕ) (entries : List Entry) → t.clients ≡ s.clients → ((client : ℕ) → floor ≤ client → kept_list_of t client ≡ kept_list_of s client) → ((client : ℕ) → client < s.clients → number_in before client ≤ (newest_of s client).number)
-    → AreLegal t side entries → RiseFrom floor entries → All (HasEntry before after) entries → All (IsEntryBetween before after s.clients) entries
+    → AreLegal t side entries → RiseFrom floor entries → All (HasEntryInFront before after) entries → All (IsEntryBetween before after s.clients) entries
 legal_between before after s t side floor [] clients kept most legal rise lines = All-nil (IsEntryBetween before after s.clients)
 legal_between before after s t side floor (entry ∷ entries) clients kept most legal rise lines =
-    let same : kept_in (client_line_at after entry.client) ≡ kept_by entry = ap kept_in (All-head (HasEntry before after) entry entries lines).newest in
+    let same : kept_in (client_line_at after entry.client) ≡ kept_by entry = ap kept_in (All-head (HasEntryInFront before after) entry entries lines).newest in
     let inside : entry.client < s.clients = omega (arith, legal.0.client, clients) in
     let own : IsEntryBetween before after s.clients entry = record {
       within = inside;
@@ -120,7 +120,7 @@ legal_between before after s t side floor (entry ∷ entries) clients kept most 
       told = λ i. record { client = entry.client; number = (same i).number; op = (same i).op; reply = (same i).reply };
     } in
     All-cons (IsEntryBetween before after s.clients) entry entries own
-    (legal_between before after s (after_entry t entry) side (suc entry.client) entries clients (λ client above. after_entry-other t entry client (λ e. absurd (omega (arith, e, above))) ∙ kept client (omega (arith, above, rise.0))) most legal.1 rise.1 (All-tail (HasEntry before after) entry entries lines))
+    (legal_between before after s (after_entry t entry) side (suc entry.client) entries clients (λ client above. after_entry-other t entry client (λ e. absurd (omega (arith, e, above))) ∙ kept client (omega (arith, above, rise.0))) most legal.1 rise.1 (All-tail (HasEntryInFront before after) entry entries lines))
 
 -- the entries between a record in use and the one that a round makes of it are the round's
 pub next_entries : (c : List Line) (s : Standing) (round : Round) (lines : List Line) → RegionParts c s → IsNextRecord c s round lines → entries_between (record_of_side c s round.side) lines s.clients ≡ round.entries

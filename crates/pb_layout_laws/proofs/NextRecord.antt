@@ -19,7 +19,7 @@ use Rattle.pb_object.specs.Standing.{Standing, side_count, rounds_of, keep, kept
 use Rattle.pb_layout.specs.ClientLine.{client_line_of, kept_in, IsKept}
 use Rattle.pb_layout.specs.Header.{record_length, slot_count, word}
 use Rattle.pb_layout.specs.LogHistory.{number_in}
-use Rattle.pb_layout.specs.NextRecord.{HasEntry, IsOfOther, IsNextOf, IsNextRecord}
+use Rattle.pb_layout.specs.NextRecord.{HasEntryInFront, IsOfOther, IsNextOf, IsNextRecord}
 use Rattle.pb_layout.specs.Record.{count_line_of, slot_line_at, client_line_at, kept_in_slots, number_sum, IsSlot, AreSlots, IsRecord}
 use Rattle.pb_layout.specs.Recovered.{Represents}
 use Rattle.pb_layout.specs.Shape.{IsHeader}
@@ -225,7 +225,7 @@ pub record IsShifted (before lines : List Line) (client : ℕ) (kept : Kept) : T
   pub shifted : (k : ℕ) → suc k < KEPT_REQUESTS → slot_line_at lines client (suc k) ≡ slot_line_at before client k
 
 abbrev pub Own : (ℕ → List Line) → Standing → Round → List Line → ℕ → Type 0
-Own records s round lines client = HasOwnEntry (HasEntry (records round.side) lines) s round.side round.entries client
+Own records s round lines client = HasOwnEntry (HasEntryInFront (records round.side) lines) s round.side round.entries client
 
 shift_of : (records : ℕ → List Line) (s : Standing) (round : Round) (lines : List Line) (client : ℕ) (has : Own records s round lines client) → IsShifted (records round.side) lines client (kept_by has.entry)
 shift_of records s round lines client has = record {
@@ -236,7 +236,7 @@ shift_of records s round lines client has = record {
 -- what a round's new record has of a client: its entry in front, or else the slots that it had
 pub next_entry : (records : ℕ → List Line) (s : Standing) (round : Round) (lines : List Line) → AreRecords records s → IsNextOf records s round lines → (client : ℕ) → client < s.clients → Own records s round lines client ⊎ All (IsOfOther client) round.entries
 next_entry records s round lines stands next client inside =
-    entry_or_others (HasEntry (records round.side) lines) s round.side 0 round.entries client (omega (arith, stands.clients)) stands.kind next.legal.legal (rise_from_zero round.entries next.legal.rising) next.entries
+    entry_or_others (HasEntryInFront (records round.side) lines) s round.side 0 round.entries client (omega (arith, stands.clients)) stands.kind next.legal.legal (rise_from_zero round.entries next.legal.rising) next.entries
 
 -- the numbers of a side's slots fall, and are at most the client's newest
 falls_in_use : (records : ℕ → List Line) (s : Standing) (side client : ℕ) → AreRecords records s → side < side_count s.kind → client < s.clients → Falling (records side) (1 + KEPT_REQUESTS * client) KEPT_REQUESTS
@@ -517,7 +517,7 @@ next_record_along c m s round lines left right same next = record {
   legal = next.legal;
   long = next.long;
   carries = next.carries;
-  entries = subst (λ (ls : List Line). All (HasEntry ls lines) round.entries) (sym same) next.entries;
+  entries = subst (λ (ls : List Line). All (HasEntryInFront ls lines) round.entries) (sym same) next.entries;
   others = λ client slot inside few others. next.others client slot inside few others ∙ ap (λ (ls : List Line). slot_line_at ls client slot) (sym same);
   state = subst (λ (ls : List Line). LinesRepresent ls (after_round s round).state) (parts_with c m s round.side lines left right (next_side s round next.legal)) next.state;
 }

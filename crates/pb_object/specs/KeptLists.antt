@@ -1,5 +1,5 @@
 -- What the requests that are kept of a client look like: they are its last recorded ones, the newest first.
-use Rattle.std.specs.Prelude.{◌≡◌, ℕ, ◌<◌, ◌≤◌, List, length, slice_index_or, All}
+use Rattle.std.specs.Prelude.{◌≡◌, ℕ, ◌<◌, ◌≤◌, ◌==◌, List, length, slice_index_or, All, Option, find}
 use Rattle.pb_object.specs.declared.request.Kept.{Kept}
 use Rattle.pb_object.specs.declared.request.TheConstants.{KEPT_REQUESTS, LAST_NUMBER}
 use Rattle.pb_object.specs.Request.{none_kept}
@@ -8,6 +8,10 @@ use Rattle.pb_object.specs.Standing.{Standing, kept_list_of, newest_of}
 -- the number of the request at a place
 abbrev pub kept_number : List Kept → ℕ → ℕ
 kept_number kept place = (slice_index_or kept place none_kept).number
+
+-- the one of these kept requests that has this number, if there is one
+abbrev pub kept_with : ℕ → List Kept → Option Kept
+kept_with number kept = find (λ one. one.number == number) kept
 
 -- a number that a request can have
 pub record HasNumber (kept : Kept) : Type 0 where

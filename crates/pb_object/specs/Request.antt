@@ -1,5 +1,5 @@
 -- Operations and replies.
-use Rattle.std.specs.Prelude.{◌≡◌, ℕ, ◌<◌, IsSomeAnd, option_map, unwrap_or}
+use Rattle.std.specs.Prelude.{◌≡◌, ℕ, ◌<◌, ◌==◌, ◌&&◌, Bool, IsSomeAnd, option_map, unwrap_or}
 use Rattle.pb_object.specs.declared.kind.Kind.{Kind}
 use Rattle.pb_object.specs.declared.codes.Answer.{Answer}
 use Rattle.pb_object.specs.declared.request.Op.{Op}
@@ -25,6 +25,10 @@ IsOperation kind op = IsSomeAnd (action_of op.code) (λ action. (action_kind act
 -- the side of an operation, 0 for what is no operation
 abbrev pub side_of_op : Op → ℕ
 side_of_op op = unwrap_or (option_map action_side (action_of op.code)) 0
+
+-- two operations are the same
+abbrev pub is_same_op : Op → Op → Bool
+is_same_op first second = first.code == second.code && first.a == second.a && first.b == second.b && first.c == second.c
 
 -- the reply that says this
 abbrev pub reply : Answer → ℕ → ℕ → Reply

@@ -33,7 +33,7 @@ use Rattle.pb_layout_laws.proofs.WritingRegion.{one_or_two}
 use Rattle.pb_pair.specs.declared.known.Known.TheVariants.{Sure}
 use Rattle.pb_pair.specs.declared.side.Sides.{Sides}
 use Rattle.pb_pair.specs.Format.{AreFirst, IsFormatted, MakesRegion, fresh_side}
-use Rattle.pb_pair.specs.View.{PairView, at_side, round_of, lines_of, pair_view, IsSide, HoldsSide, HoldsRecords, IsPair}
+use Rattle.pb_pair.specs.View.{PairView, at_side, round_of_side, lines_of, pair_view, IsSide, HoldsSide, HoldsRecords, IsPair}
 use Rattle.pb_pair.proofs.Pairs.{now_before}
 use Rattle.pb_pair.proofs.Told.{whole_contents, told_before}
 
@@ -143,7 +143,7 @@ formatted_holds device image head first second whole given = record { in_use = i
     new : List Line
     new = contents image (format_ops head first second)
 
-    in_use : (side : ℕ) → side < side_count head.kind → record_in_use new head side (round_of (formatted_as device head first second) side) ≡ lines_of (formatted_as device head first second) side
+    in_use : (side : ℕ) → side < side_count head.kind → record_in_use new head side (round_of_side (formatted_as device head first second) side) ≡ lines_of (formatted_as device head first second) side
     in_use zero here = first_there image head first second whole given
     in_use (suc side) here =
         let two = two_of head side here in

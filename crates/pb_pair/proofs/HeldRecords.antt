@@ -19,7 +19,7 @@ use Rattle.pb_layout.specs.ToldExits.{contents_of}
 use Rattle.pb_layout.proofs.Untouched.{Spares, record_at-spared}
 use Rattle.pb_layout_laws.proofs.CutOff.{KeepsAdded, added_has, cut_off_keeps}
 use Rattle.pb_layout_laws.proofs.Geometry.{record_after}
-use Rattle.pb_pair.specs.View.{DoubtView, PairView, round_of, HoldsRecords, IsPair}
+use Rattle.pb_pair.specs.View.{DoubtView, PairView, round_of_side, HoldsRecords, IsPair}
 use Rattle.pb_pair.proofs.Told.{told_before}
 
 -- Operations that write none of the records
@@ -84,8 +84,8 @@ IsDoubtHere pair = (doubt : DoubtView) → pair.doubt ≡ Some doubt → doubt.s
 
 pub keeps_records : (pair : PairView) (ops : List LogOp) (image : List Line) → IsDoubtHere pair → SparesRecords pair.head ops → HoldsRecords pair image → HoldsRecords pair (contents image ops)
 keeps_records pair ops image there spares holds = record {
-  in_use = λ side here. record_at-spared ops image pair.head side (round_of pair side % 2) (spares side (round_of pair side % 2) here) ∙ holds.in_use side here;
-  in_doubt = λ doubt is called. record_at-spared ops image pair.head doubt.side ((round_of pair doubt.side + 1) % 2) (spares doubt.side ((round_of pair doubt.side + 1) % 2) (there doubt is)) ∙ holds.in_doubt doubt is called;
+  in_use = λ side here. record_at-spared ops image pair.head side (round_of_side pair side % 2) (spares side (round_of_side pair side % 2) here) ∙ holds.in_use side here;
+  in_doubt = λ doubt is called. record_at-spared ops image pair.head doubt.side ((round_of_side pair doubt.side + 1) % 2) (spares doubt.side ((round_of_side pair doubt.side + 1) % 2) (there doubt is)) ∙ holds.in_doubt doubt is called;
 }
 
 -- after a call, whole or cut off

@@ -35,9 +35,10 @@ use Rattle.pb_pair.specs.declared.known.Doubt.{Doubt}
 use Rattle.pb_pair.specs.declared.known.Known.{Known}
 use Rattle.pb_pair.specs.declared.known.Known.TheVariants.{Sure, Failed}
 use Rattle.pb_pair.specs.declared.side.Sides.{Sides}
-use Rattle.pb_pair.specs.Cells.{IsNothing, IsFree, put_ops}
+use Rattle.pb_pair.specs.Cells.{IsNothing, IsFree}
+use Rattle.pb_layout.specs.PutCell.{put_ops}
 use Rattle.pb_pair.specs.Store.{staged_ops, stored_ops, stored_side, IsNext, IsFailedStore, doubt_of}
-use Rattle.pb_pair.specs.View.{SideView, DoubtView, PairView, at_side, side_of, round_of, lines_of, no_side, forgotten, if_known, side_view, doubt_view, pair_view, HasRoom, IsSide, HoldsSide, IsDoubt, HoldsRecords, IsPair, HasFailed, HasForgotten}
+use Rattle.pb_pair.specs.View.{SideView, DoubtView, PairView, at_side, view_of_side, round_of_side, lines_of, no_side, forgotten, if_known, side_view, doubt_view, pair_view, HasRoom, IsSide, HoldsSide, IsDoubt, HoldsRecords, IsPair, HasFailed, HasForgotten}
 use Rattle.pb_pair.proofs.HeldRecords.{SparesRecords, added_spares, cut_spares, commit-spares, commit_spares, IsDoubtHere, keeps_records, kept_where_told}
 use Rattle.pb_pair.proofs.Told.{told_now, whole_contents, told_before}
 
@@ -77,7 +78,7 @@ failed_holds old device left image holds = record {
   in_doubt = λ doubt is called. ap (λ (n : ℕ). record_in_use image old.head doubt.side (n + 1)) (forgotten_round old.first old.second doubt.side) ∙ holds.in_doubt doubt is called;
 }
   where
-    in_use : (side : ℕ) → side < side_count old.head.kind → record_in_use image old.head side (round_of (failed_as old device left) side) ≡ lines_of (failed_as old device left) side
+    in_use : (side : ℕ) → side < side_count old.head.kind → record_in_use image old.head side (round_of_side (failed_as old device left) side) ≡ lines_of (failed_as old device left) side
     in_use zero here = holds.in_use 0 here
     in_use (suc side) here = holds.in_use (suc side) here
 
@@ -204,14 +205,14 @@ moved_pair old device ops sound does spares = record {
   decided = sound.decided;
 }
   where
-    holds : (image : List Line) → device.now ≡ Some image → (side : ℕ) → side < side_count old.head.kind → HoldsSide old.head side (side_of old side) image
+    holds : (image : List Line) → device.now ≡ Some image → (side : ℕ) → side < side_count old.head.kind → HoldsSide old.head side (view_of_side old side) image
     holds image now side here =
         let before = now_before ops old.device.now device.now image does.now now in
         let was = sound.holds before.0 before.1 side here in
         let same = λ (which : ℕ). ap (λ (l : List Line). record_at l old.head side which) before.2 ∙ record_at-spared ops before.0 old.head side which (spares side which here) in
         record {
-          in_use = λ written. same ((side_of old side).round % 2) ∙ was.in_use written;
-          spare = λ lines is. same (((side_of old side).round + 1) % 2) ∙ was.spare lines is;
+          in_use = λ written. same ((view_of_side old side).round % 2) ∙ was.in_use written;
+          spare = λ lines is. same (((view_of_side old side).round + 1) % 2) ∙ was.spare lines is;
         }
 
 pub sure_not_failed : ◌≡◌ {A = Known} Sure Failed → ⊥
@@ -334,10 +335,10 @@ stored_as old device side lines = record {
 -- The records, where the device tells its log
 
 -- no side's record in use is the spare one of this side
-pub in_use_is_other : (pair : PairView) (side other : ℕ) → 2 * other + round_of pair other % 2 ≢ 2 * side + (round_of pair side + 1) % 2
+pub in_use_is_other : (pair : PairView) (side other : ℕ) → 2 * other + round_of_side pair other % 2 ≢ 2 * side + (round_of_side pair side + 1) % 2
 in_use_is_other pair side other e =
-    let same : other ≡ side = omega (arith, e, parity-lt (round_of pair other), parity-lt (round_of pair side + 1)) in
-    parity-one (round_of pair side) (omega (arith, e, same, ap (round_of pair) same))
+    let same : other ≡ side = omega (arith, e, parity-lt (round_of_side pair other), parity-lt (round_of_side pair side + 1)) in
+    parity-one (round_of_side pair side) (omega (arith, e, same, ap (round_of_side pair) same))
 
 one_doubt : (a b : DoubtView) → ◌≡◌ {A = Option DoubtView} (Some a) (Some b) → a ≡ b
 one_doubt a b e = cc
@@ -346,39 +347,39 @@ one_doubt a b e = cc
 abbrev this_doubt : ℕ → List Line → DoubtView
 this_doubt side lines = record { side = side; lines = lines; called = true }
 
-staged_holds : (old : PairView) (side : ℕ) (lines image : List Line) → IsPair old → length image ≡ LINES → old.device.now ≡ Some image → IsNext old side lines → HoldsRecords old image → HoldsRecords (record old { doubt = doubt_of side lines true }) (contents image (staged_ops old.head side (side_of old side) lines))
+staged_holds : (old : PairView) (side : ℕ) (lines image : List Line) → IsPair old → length image ≡ LINES → old.device.now ≡ Some image → IsNext old side lines → HoldsRecords old image → HoldsRecords (record old { doubt = doubt_of side lines true }) (contents image (staged_ops old.head side (view_of_side old side) lines))
 staged_holds old side lines image sound whole now next holds = record {
-  in_use = λ other here. record_at-spared ops image old.head other (round_of old other % 2) (staged-spares old.head side (side_of old side) lines other (round_of old other % 2) next.long (in_use_is_other old side other)) ∙ holds.in_use other here;
-  in_doubt = λ doubt is called. subst (λ (d : DoubtView). record_in_use (contents image ops) old.head d.side (round_of old d.side + 1) ≡ d.lines) (one_doubt (this_doubt side lines) doubt is) there;
+  in_use = λ other here. record_at-spared ops image old.head other (round_of_side old other % 2) (staged-spares old.head side (view_of_side old side) lines other (round_of_side old other % 2) next.long (in_use_is_other old side other)) ∙ holds.in_use other here;
+  in_doubt = λ doubt is called. subst (λ (d : DoubtView). record_in_use (contents image ops) old.head d.side (round_of_side old d.side + 1) ≡ d.lines) (one_doubt (this_doubt side lines) doubt is) there;
 }
   where
     ops : List LogOp
-    ops = staged_ops old.head side (side_of old side) lines
+    ops = staged_ops old.head side (view_of_side old side) lines
 
-    there : record_in_use (contents image ops) old.head side (round_of old side + 1) ≡ lines
-    there = staged_there image old.head side (side_of old side) lines whole sound.valid next.here next.long (sound.holds image now side next.here)
+    there : record_in_use (contents image ops) old.head side (round_of_side old side + 1) ≡ lines
+    there = staged_there image old.head side (view_of_side old side) lines whole sound.valid next.here next.long (sound.holds image now side next.here)
 
 this_here : (old : PairView) (side : ℕ) (lines : List Line) → side < side_count old.head.kind → IsDoubtHere (record old { doubt = doubt_of side lines true })
 this_here old side lines here doubt is = subst (λ (d : DoubtView). d.side < side_count old.head.kind) (one_doubt (this_doubt side lines) doubt is) here
 
 -- a store that failed before its index word ..
-unstaged_holds : (old : PairView) (side : ℕ) (lines image : List Line) (ops : List LogOp) → IsNext old side lines → IsFailedPrefix (staged_ops old.head side (side_of old side) lines) ops → HoldsRecords old image → HoldsRecords (record old { doubt = doubt_of side lines false }) (contents image ops)
+unstaged_holds : (old : PairView) (side : ℕ) (lines image : List Line) (ops : List LogOp) → IsNext old side lines → IsFailedPrefix (staged_ops old.head side (view_of_side old side) lines) ops → HoldsRecords old image → HoldsRecords (record old { doubt = doubt_of side lines false }) (contents image ops)
 unstaged_holds old side lines image ops next cut holds = record {
-  in_use = λ other here. record_at-spared ops image old.head other (round_of old other % 2) (cut_off_keeps (Spares (record_place old.head other (round_of old other % 2)) (record_length old.head)) (added_spares (record_place old.head other (round_of old other % 2)) (record_length old.head)) (staged_ops old.head side (side_of old side) lines) ops (staged-spares old.head side (side_of old side) lines other (round_of old other % 2) next.long (in_use_is_other old side other)) cut) ∙ holds.in_use other here;
+  in_use = λ other here. record_at-spared ops image old.head other (round_of_side old other % 2) (cut_off_keeps (Spares (record_place old.head other (round_of_side old other % 2)) (record_length old.head)) (added_spares (record_place old.head other (round_of_side old other % 2)) (record_length old.head)) (staged_ops old.head side (view_of_side old side) lines) ops (staged-spares old.head side (view_of_side old side) lines other (round_of_side old other % 2) next.long (in_use_is_other old side other)) cut) ∙ holds.in_use other here;
   in_doubt = λ doubt is called. absurd (cc (is, called));
 }
 
 -- .. and from it on
-failed_store_holds : (called : Bool) (old : PairView) (side : ℕ) (lines image : List Line) (ops : List LogOp) → IsPair old → length image ≡ LINES → old.device.now ≡ Some image → IsNext old side lines → IsFailedStore old.head side (side_of old side) lines called ops → HoldsRecords old image → HoldsRecords (record old { doubt = doubt_of side lines called }) (contents image ops)
+failed_store_holds : (called : Bool) (old : PairView) (side : ℕ) (lines image : List Line) (ops : List LogOp) → IsPair old → length image ≡ LINES → old.device.now ≡ Some image → IsNext old side lines → IsFailedStore old.head side (view_of_side old side) lines called ops → HoldsRecords old image → HoldsRecords (record old { doubt = doubt_of side lines called }) (contents image ops)
 failed_store_holds false old side lines image ops sound whole now next cut holds = unstaged_holds old side lines image ops next cut holds
 failed_store_holds true old side lines image ops sound whole now next cut holds =
-    let staged = staged_ops old.head side (side_of old side) lines in
+    let staged = staged_ops old.head side (view_of_side old side) lines in
     let left : PairView = record old { doubt = doubt_of side lines true } in
     subst (HoldsRecords left) (sym (ap (contents image) cut.whole ∙ contents-append image staged cut.tail))
-    (keeps_records left cut.tail (contents image staged) (this_here old side lines next.here) (cut_spares old.head (commit_ops side (round_of old side + 1)) cut.tail (commit_spares old.head side (round_of old side + 1) (sides_few old.head.kind side next.here)) cut.cut) (staged_holds old side lines image sound whole now next holds))
+    (keeps_records left cut.tail (contents image staged) (this_here old side lines next.here) (cut_spares old.head (commit_ops side (round_of_side old side + 1)) cut.tail (commit_spares old.head side (round_of_side old side + 1) (sides_few old.head.kind side next.here)) cut.cut) (staged_holds old side lines image sound whole now next holds))
 
 -- where the log was told before a call
-pub after_failed_store : (called : Bool) (old : PairView) (device : Device) (side : ℕ) (lines : List Line) → IsPair old → IsWhole old.device → IsReplay old.device → IsNext old side lines → Stops (IsFailedStore old.head side (side_of old side) lines called) old.device device → HoldsWith old (doubt_of side lines called) device
+pub after_failed_store : (called : Bool) (old : PairView) (device : Device) (side : ℕ) (lines : List Line) → IsPair old → IsWhole old.device → IsReplay old.device → IsNext old side lines → Stops (IsFailedStore old.head side (view_of_side old side) lines called) old.device device → HoldsWith old (doubt_of side lines called) device
 after_failed_store called old device side lines sound whole replay next stops tale told =
     let before = told_before stops.ops old.device.told device.told tale stops.told told in
     subst (HoldsRecords (record old { doubt = doubt_of side lines called })) (sym before.2)
@@ -388,7 +389,7 @@ after_failed_store called old device side lines sound whole replay next stops ta
 stored_records : (old : PairView) (device : Device) (side : ℕ) (lines image : List Line) → side < side_count old.head.kind → HoldsRecords (record old { doubt = doubt_of side lines true }) image → HoldsRecords (stored_as old device side lines) image
 stored_records old device side lines image here holds = record { in_use = in_use side here (holds.in_doubt (this_doubt side lines) refl refl); in_doubt = λ doubt is called. absurd (cc) }
   where
-    in_use : (side : ℕ) → side < side_count old.head.kind → record_in_use image old.head side (round_of old side + 1) ≡ lines → (other : ℕ) → other < side_count old.head.kind → record_in_use image old.head other (round_of (stored_as old device side lines) other) ≡ lines_of (stored_as old device side lines) other
+    in_use : (side : ℕ) → side < side_count old.head.kind → record_in_use image old.head side (round_of_side old side + 1) ≡ lines → (other : ℕ) → other < side_count old.head.kind → record_in_use image old.head other (round_of_side (stored_as old device side lines) other) ≡ lines_of (stored_as old device side lines) other
     in_use zero here there zero within = there
     in_use zero here there (suc other) within = holds.in_use (suc other) within
     in_use (suc side) here there zero within = holds.in_use 0 within
@@ -398,27 +399,27 @@ stored_records old device side lines image here holds = record { in_use = in_use
         let same : suc side ≡ suc other = omega arith in
         subst (λ (n : ℕ). record_in_use image old.head n (old.second.round + 1) ≡ lines) same there
 
-stored_hold : (old : PairView) (device : Device) (side : ℕ) (lines image : List Line) → IsPair old → length image ≡ LINES → old.device.now ≡ Some image → IsNext old side lines → HoldsRecords old image → HoldsRecords (stored_as old device side lines) (contents image (stored_ops old.head side (side_of old side) lines))
+stored_hold : (old : PairView) (device : Device) (side : ℕ) (lines image : List Line) → IsPair old → length image ≡ LINES → old.device.now ≡ Some image → IsNext old side lines → HoldsRecords old image → HoldsRecords (stored_as old device side lines) (contents image (stored_ops old.head side (view_of_side old side) lines))
 stored_hold old device side lines image sound whole now next holds =
-    let staged = staged_ops old.head side (side_of old side) lines in
-    let commit = commit_ops side (round_of old side + 1) in
+    let staged = staged_ops old.head side (view_of_side old side) lines in
+    let commit = commit_ops side (round_of_side old side + 1) in
     let left : PairView = record old { doubt = doubt_of side lines true } in
     stored_records old device side lines (contents image (staged ++ commit)) next.here
     (subst (HoldsRecords left) (sym (contents-append image staged commit))
-    (keeps_records left commit (contents image staged) (this_here old side lines next.here) (commit_spares old.head side (round_of old side + 1) (sides_few old.head.kind side next.here)) (staged_holds old side lines image sound whole now next holds)))
+    (keeps_records left commit (contents image staged) (this_here old side lines next.here) (commit_spares old.head side (round_of_side old side + 1) (sides_few old.head.kind side next.here)) (staged_holds old side lines image sound whole now next holds)))
 
-after_store : (old : PairView) (device : Device) (side : ℕ) (lines : List Line) → IsPair old → IsWhole old.device → IsReplay old.device → IsNext old side lines → Does (stored_ops old.head side (side_of old side) lines) old.device device → (tale : Tale) → device.told ≡ Some tale → HoldsRecords (stored_as old device side lines) (contents_of tale)
+after_store : (old : PairView) (device : Device) (side : ℕ) (lines : List Line) → IsPair old → IsWhole old.device → IsReplay old.device → IsNext old side lines → Does (stored_ops old.head side (view_of_side old side) lines) old.device device → (tale : Tale) → device.told ≡ Some tale → HoldsRecords (stored_as old device side lines) (contents_of tale)
 after_store old device side lines sound whole replay next does tale told =
-    let before = told_before (stored_ops old.head side (side_of old side) lines) old.device.told device.told tale does.told told in
+    let before = told_before (stored_ops old.head side (view_of_side old side) lines) old.device.told device.told tale does.told told in
     subst (HoldsRecords (stored_as old device side lines)) (sym before.2)
     (stored_hold old device side lines (contents_of before.0) sound (whole_contents old.device before.0 whole replay before.1) (told_now old.device before.0 replay before.1) next (sound.records before.0 before.1))
 
-pub stored_pair : (old : PairView) (device : Device) (side : ℕ) (lines : List Line) → IsPair old → IsWhole old.device → IsReplay old.device → IsNext old side lines → Does (stored_ops old.head side (side_of old side) lines) old.device device → IsPair (stored_as old device side lines)
+pub stored_pair : (old : PairView) (device : Device) (side : ℕ) (lines : List Line) → IsPair old → IsWhole old.device → IsReplay old.device → IsNext old side lines → Does (stored_ops old.head side (view_of_side old side) lines) old.device device → IsPair (stored_as old device side lines)
 stored_pair old device side lines sound whole replay next does = record {
   valid = sound.valid;
   sides = sides side next.here next.long next.own;
   one_side = one_side side next.here;
-  holds = λ image now. let before = now_before (stored_ops old.head side (side_of old side) lines) old.device.now device.now image does.now now in λ other here. subst (HoldsSide old.head other (side_of (stored_as old device side lines) other)) (sym before.2) (holds before.0 (whole_image before.0 before.1) (sound.holds before.0 before.1) side other next.here next.long here);
+  holds = λ image now. let before = now_before (stored_ops old.head side (view_of_side old side) lines) old.device.now device.now image does.now now in λ other here. subst (HoldsSide old.head other (view_of_side (stored_as old device side lines) other)) (sym before.2) (holds before.0 (whole_image before.0 before.1) (sound.holds before.0 before.1) side other next.here next.long here);
   records = after_store old device side lines sound whole replay next does;
   unsure_first = λ unsure. absurd (unsure refl);
   unsure_second = λ unsure. absurd (unsure refl);
@@ -429,7 +430,7 @@ stored_pair old device side lines sound whole replay next does = record {
     whole_image : (image : List Line) → old.device.now ≡ Some image → length image ≡ LINES
     whole_image image now = subst (λ (o : Option (List Line)). IfSome o (λ lines. length lines ≡ LINES)) now whole
 
-    sides : (side : ℕ) → side < side_count old.head.kind → length lines ≡ record_length old.head → IsRecord old.head side ((side_of old side).round + 1) lines → (other : ℕ) → other < side_count old.head.kind → IsSide old.head other (side_of (stored_as old device side lines) other)
+    sides : (side : ℕ) → side < side_count old.head.kind → length lines ≡ record_length old.head → IsRecord old.head side ((view_of_side old side).round + 1) lines → (other : ℕ) → other < side_count old.head.kind → IsSide old.head other (view_of_side (stored_as old device side lines) other)
     sides zero here long own zero within = record { long = long; own = own }
     sides zero here long own (suc other) within = sound.sides (suc other) within
     sides (suc side) here long own zero within = sound.sides zero within
@@ -443,7 +444,7 @@ stored_pair old device side lines sound whole replay next does = record {
     one_side zero here one = sound.one_side one
     one_side (suc side) here one = absurd (omega arith)
 
-    holds : (image : List Line) → length image ≡ LINES → ((other : ℕ) → other < side_count old.head.kind → HoldsSide old.head other (side_of old other) image) → (side other : ℕ) → side < side_count old.head.kind → length lines ≡ record_length old.head → other < side_count old.head.kind → HoldsSide old.head other (side_of (stored_as old device side lines) other) (contents image (stored_ops old.head side (side_of old side) lines))
+    holds : (image : List Line) → length image ≡ LINES → ((other : ℕ) → other < side_count old.head.kind → HoldsSide old.head other (view_of_side old other) image) → (side other : ℕ) → side < side_count old.head.kind → length lines ≡ record_length old.head → other < side_count old.head.kind → HoldsSide old.head other (view_of_side (stored_as old device side lines) other) (contents image (stored_ops old.head side (view_of_side old side) lines))
     holds image full was zero zero here long within = stored_holds image old.head 0 old.first lines full sound.valid here long (was 0 here)
     holds image full was zero (suc other) here long within = other_holds image old.head 0 (suc other) old.first old.second lines here (λ e. omega arith) long (was (suc other) within)
     holds image full was (suc side) zero here long within = other_holds image old.head (suc side) 0 old.second old.first lines here (λ e. omega arith) long (was 0 within)

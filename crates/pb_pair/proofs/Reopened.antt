@@ -27,7 +27,7 @@ use Rattle.pb_pair.specs.Open.{IsReadFrom, IsOpened, IsRefusedAt, IsOpenRefusal}
 use Rattle.pb_pair.specs.Safe.{IsPairOf, IsStoreOf, IsDoubtOf}
 use Rattle.pb_pair.specs.Settle.{IsSettled, settled_ops, was_called}
 use Rattle.pb_pair.specs.Store.{IsNext, IsStored, HasFailedStore}
-use Rattle.pb_pair.specs.View.{DoubtView, SideView, PairView, round_of, lines_of, IsPair, HasFailed}
+use Rattle.pb_pair.specs.View.{DoubtView, SideView, PairView, round_of_side, lines_of, IsPair, HasFailed}
 use Rattle.pb_pair.proofs.Opened.{header_is}
 use Rattle.pb_pair.proofs.Safe.{settles_found, round_after, not_called}
 use Rattle.pb_pair.proofs.Told.{told_after}
@@ -64,11 +64,11 @@ opening_finds_what_stands device pair lines s opened now stands = record { head 
     sides : side_count pair.head.kind ≡ side_count s.kind
     sides = ap (λ h. side_count h.kind) head
 
-    past_one : (side : ℕ) → side < 2 → side_count pair.head.kind ≤ side → round_of pair side ≡ 0
+    past_one : (side : ℕ) → side < 2 → side_count pair.head.kind ≤ side → round_of_side pair side ≡ 0
     past_one zero below past = absurd (omega (arith, some_side pair))
     past_one (suc side) below past = ap (λ (part : SideView). part.round) (opened.sound.one_side (omega (arith, some_side pair, few_sides pair.head.kind)))
 
-    rounds : (side : ℕ) → side < 2 → round_of pair side ≡ rounds_of s side
+    rounds : (side : ℕ) → side < 2 → round_of_side pair side ≡ rounds_of s side
     rounds side below =
         elim (cases_lt side (side_count pair.head.kind)) [
           | inl here ↦ read.rounds side here ∙ ap (λ (l : Line). word l 0) ((parts lines s stands).rounds side below)
@@ -97,7 +97,7 @@ both_sides P first second (suc side) below = let one : 1 ≡ suc side = omega ar
 pub settled_found : (old new : PairView) (s : Standing) → IsSettled old new → IsPairOf old s → was_called old.doubt ≡ false → IsPairOf new s
 settled_found old new s settled of not = record {
   head = settled.head ∙ of.head;
-  rounds = both_sides (λ side. round_of new side ≡ rounds_of s side)
+  rounds = both_sides (λ side. round_of_side new side ≡ rounds_of s side)
       (ap (λ (part : SideView). part.round) (settled.first ∙ not_called old.doubt 0 old.first not) ∙ of.rounds 0 (omega arith))
       (ap (λ (part : SideView). part.round) (settled.second ∙ not_called old.doubt 1 old.second not) ∙ of.rounds 1 (omega arith));
 }
@@ -112,7 +112,7 @@ settled_decided old new s round lines settled doubt stands legal =
     let long = sides_of lines s round stands in
     record {
       head = settled.head ∙ (doubt.of.head ∙ sym (next_header s round));
-      rounds = both_sides (λ side. round_of new side ≡ rounds_of (after_round s round) side)
+      rounds = both_sides (λ side. round_of_side new side ≡ rounds_of (after_round s round) side)
           (ap (λ (part : SideView). part.round) settled.first ∙ round_after old s round 0 old.first doubt legal long (omega arith) (doubt.of.rounds 0 (omega arith)))
           (ap (λ (part : SideView). part.round) settled.second ∙ round_after old s round 1 old.second doubt legal long (omega arith) (doubt.of.rounds 1 (omega arith)));
     }
@@ -121,7 +121,7 @@ pub failed_in_doubt : (old new : PairView) (side : ℕ) (lines : List Line) (fau
 failed_in_doubt old new side lines fault s round tale failed store called = record {
   of = record {
     head = failed.failed.head ∙ store.of.head;
-    rounds = both_sides (λ n. round_of new n ≡ rounds_of s n)
+    rounds = both_sides (λ n. round_of_side new n ≡ rounds_of s n)
         (ap (λ (part : SideView). part.round) failed.failed.first ∙ store.of.rounds 0 (omega arith))
         (ap (λ (part : SideView). part.round) failed.failed.second ∙ store.of.rounds 1 (omega arith));
   };
@@ -131,7 +131,7 @@ failed_in_doubt old new side lines fault s round tale failed store called = reco
   side_is = sym store.side_is;
 }
 
-stored_rounds : (old new : PairView) (side : ℕ) (lines : List Line) (s : Standing) (round : Round) → IsStored side lines old new → IsPairOf old s → round.side ≡ side → IsLegalRound s round → length s.rounds ≡ side_count s.kind → side < 2 → (n : ℕ) → n < 2 → round_of new n ≡ rounds_of (after_round s round) n
+stored_rounds : (old new : PairView) (side : ℕ) (lines : List Line) (s : Standing) (round : Round) → IsStored side lines old new → IsPairOf old s → round.side ≡ side → IsLegalRound s round → length s.rounds ≡ side_count s.kind → side < 2 → (n : ℕ) → n < 2 → round_of_side new n ≡ rounds_of (after_round s round) n
 stored_rounds old new zero lines s round stored of same legal long few zero below =
     ap (λ (part : SideView). part.round) stored.first ∙ (ap (λ (k : ℕ). k + 1) (of.rounds 0 (omega arith)) ∙ subst (λ (k : ℕ). rounds_of s k + 1 ≡ rounds_of (after_round s round) k) same (sym (next_rounds s round legal long)))
 stored_rounds old new zero lines s round stored of same legal long few (suc n) below =
@@ -155,7 +155,7 @@ stored_moves_on old new side lines s round tale next stored store =
 pub failed_of : (IsPrefix : List LogOp → Type 0) (left : Option DoubtView) (old new : PairView) (fault : DeviceFault) (s : Standing) → HasFailed IsPrefix left old fault new → IsPairOf old s → IsPairOf new s
 failed_of IsPrefix left old new fault s failed of = record {
   head = failed.head ∙ of.head;
-  rounds = both_sides (λ side. round_of new side ≡ rounds_of s side)
+  rounds = both_sides (λ side. round_of_side new side ≡ rounds_of s side)
       (ap (λ (part : SideView). part.round) failed.first ∙ of.rounds 0 (omega arith))
       (ap (λ (part : SideView). part.round) failed.second ∙ of.rounds 1 (omega arith));
 }

@@ -29,7 +29,7 @@ use Rattle.pb_layout.specs.Shape.{IsHeader}
 use Rattle.pb_layout.specs.Header.{record_length}
 use Rattle.pb_layout.specs.LogHistory.{AreSealed, history_of}
 use Rattle.pb_layout.specs.NextRecord.{IsNextRecord, HasCells}
-use Rattle.pb_layout.specs.PutCell.{IsFreePosition}
+use Rattle.pb_layout.specs.PutCell.{IsFreePosition, put_ops}
 use Rattle.pb_layout.specs.Recovered.{Represents}
 use Rattle.pb_layout.specs.RegionOps.{writes_over, stage_by, store_by, commit_ops, spare_place, prepare_ops, format_ops, settle_ops, settle_to}
 use Rattle.pb_layout.specs.Represents.{header_for, object_parts}
@@ -53,12 +53,12 @@ use Rattle.pb_layout_laws.proofs.Settling.{settling_failing, settling_leaves_one
 use Rattle.pb_layout_laws.proofs.Storing.{IsStoreBy}
 use Rattle.pb_layout_laws.proofs.StoreExits.{store_by_while_staging, store_by_while_committing, store_by_whole}
 use Rattle.pb_layout_laws.proofs.ToldCalls.{told_exit, told_doubt}
-use Rattle.pb_pair.specs.Cells.{IsFree, put_ops}
+use Rattle.pb_pair.specs.Cells.{IsFree}
 use Rattle.pb_pair.specs.Format.{IsFailedFormat, IsFormatStop}
 use Rattle.pb_pair.specs.Safe.{FormatCovers, FailedFormatCovers, IsPairOf, IsPutOf, PutCovers, IsStoreOf, StoreCovers, FailedStoreCovers, IsDoubtOf, SettleCovers, FailedSettleCovers}
 use Rattle.pb_pair.specs.Settle.{was_called, settled_by, settled_side, settled_ops}
 use Rattle.pb_pair.specs.Store.{staged_ops, stored_ops, IsNext, IsStored, IsFailedStore, doubt_of, HasFailedStore}
-use Rattle.pb_pair.specs.View.{SideView, DoubtView, PairView, side_of, round_of, lines_of, HoldsSide, IsPair}
+use Rattle.pb_pair.specs.View.{SideView, DoubtView, PairView, view_of_side, round_of_side, lines_of, HoldsSide, IsPair}
 use Rattle.pb_pair.specs.declared.why.Stop.{Stop}
 use Rattle.pb_pair.specs.declared.why.Stop.TheVariants.{NoMemory, Fault, WasTaken, WasEmpty, BadLine}
 use Rattle.pb_pair.proofs.Told.{told_now, whole_contents, told_length, told_after}
@@ -91,40 +91,40 @@ failed_put_covers old new position value free stops tale s told ready put =
 
 -- the writes of this store
 abbrev writes_of : PairView → ℕ → List Line → List LogOp
-writes_of old side lines = writes_over (spare_place old.head side (round_of old side)) (side_of old side).spare lines
+writes_of old side lines = writes_over (spare_place old.head side (round_of_side old side)) (view_of_side old side).spare lines
 
 -- its operations, in the words of the laws
-staged_is : (old : PairView) (side : ℕ) (lines : List Line) (s : Standing) → IsPairOf old s → IsNext old side lines → staged_ops old.head side (side_of old side) lines ≡ stage_by (writes_of old side lines) (header_for s) side (rounds_of s side)
+staged_is : (old : PairView) (side : ℕ) (lines : List Line) (s : Standing) → IsPairOf old s → IsNext old side lines → staged_ops old.head side (view_of_side old side) lines ≡ stage_by (writes_of old side lines) (header_for s) side (rounds_of s side)
 staged_is old side lines s of next =
     let few = sides_few old.head.kind side next.here in
-    let place : spare_place old.head side (round_of old side) ≡ spare_place (header_for s) side (rounds_of s side) = λ i. spare_place (of.head i) side (of.rounds side few i) in
+    let place : spare_place old.head side (round_of_side old side) ≡ spare_place (header_for s) side (rounds_of s side) = λ i. spare_place (of.head i) side (of.rounds side few i) in
     let long : length lines ≡ record_length (header_for s) = next.long ∙ ap record_length of.head in
     λ i. writes_of old side lines ++ Back (place i) (long i) ∷ Fence ∷ []
 
 staging_of : (old : PairView) (side : ℕ) (lines : List Line) (s : Standing) → IsPairOf old s → IsNext old side lines → All (IsStagingOp (spare_place (header_for s) side (rounds_of s side)) (record_length (header_for s))) (writes_of old side lines)
 staging_of old side lines s of next =
     let few = sides_few old.head.kind side next.here in
-    let place : spare_place old.head side (round_of old side) ≡ spare_place (header_for s) side (rounds_of s side) = λ i. spare_place (of.head i) side (of.rounds side few i) in
+    let place : spare_place old.head side (round_of_side old side) ≡ spare_place (header_for s) side (rounds_of s side) = λ i. spare_place (of.head i) side (of.rounds side few i) in
     let long : length lines ≡ record_length (header_for s) = next.long ∙ ap record_length of.head in
     subst (λ (count : ℕ). All (IsStagingOp (spare_place (header_for s) side (rounds_of s side)) count) (writes_of old side lines)) long
-    (subst (λ (first : ℕ). All (IsStagingOp first (length lines)) (writes_of old side lines)) place (over_stage (spare_place old.head side (round_of old side)) (side_of old side).spare lines))
+    (subst (λ (first : ℕ). All (IsStagingOp first (length lines)) (writes_of old side lines)) place (over_stage (spare_place old.head side (round_of_side old side)) (view_of_side old side).spare lines))
 
 -- over a device whose lines are these, they put the record in its place
 stages_at : (old : PairView) (side : ℕ) (lines : List Line) (s : Standing) (image : List Line) → IsPair old → length image ≡ LINES → old.device.now ≡ Some image → IsPairOf old s → IsNext old side lines → StagesRecord (spare_place (header_for s) side (rounds_of s side)) lines image (writes_of old side lines)
 stages_at old side lines s image sound full now of next =
     let few = sides_few old.head.kind side next.here in
-    let place : spare_place old.head side (round_of old side) ≡ spare_place (header_for s) side (rounds_of s side) = λ i. spare_place (of.head i) side (of.rounds side few i) in
-    subst (λ (first : ℕ). StagesRecord first lines image (writes_of old side lines)) place (over_stages image (spare_place old.head side (round_of old side)) (side_of old side).spare lines before fits)
+    let place : spare_place old.head side (round_of_side old side) ≡ spare_place (header_for s) side (rounds_of s side) = λ i. spare_place (of.head i) side (of.rounds side few i) in
+    subst (λ (first : ℕ). StagesRecord first lines image (writes_of old side lines)) place (over_stages image (spare_place old.head side (round_of_side old side)) (view_of_side old side).spare lines before fits)
   where
-    holds : HoldsSide old.head side (side_of old side) image
+    holds : HoldsSide old.head side (view_of_side old side) image
     holds = sound.holds image now side next.here
 
-    fits : spare_place old.head side (round_of old side) + length lines ≤ length image
-    fits = omega (arith, full, next.long, record_fits old.head side _ sound.valid next.here (parity-lt (round_of old side + 1)))
+    fits : spare_place old.head side (round_of_side old side) + length lines ≤ length image
+    fits = omega (arith, full, next.long, record_fits old.head side _ sound.valid next.here (parity-lt (round_of_side old side + 1)))
 
-    before : (was : List Line) → (side_of old side).spare ≡ Some was → (at : ℕ) → at < length lines → line_at image (spare_place old.head side (round_of old side) + at) ≡ line_at was at
+    before : (was : List Line) → (view_of_side old side).spare ≡ Some was → (at : ℕ) → at < length lines → line_at image (spare_place old.head side (round_of_side old side) + at) ≡ line_at was at
     before was is at inside =
-        sym (line_at-piece image (spare_place old.head side (round_of old side)) (record_length old.head) at (omega (arith, next.long))) ∙ ap (λ (l : List Line). line_at l at) (holds.spare was is)
+        sym (line_at-piece image (spare_place old.head side (round_of_side old side)) (record_length old.head) at (omega (arith, next.long))) ∙ ap (λ (l : List Line). line_at l at) (holds.spare was is)
 
 stages_of : (old : PairView) (side : ℕ) (lines : List Line) (s : Standing) (tale : Tale) → IsPair old → IsWhole old.device → IsReplay old.device → old.device.told ≡ Some tale → IsPairOf old s → IsNext old side lines → StagesRecord (spare_place (header_for s) side (rounds_of s side)) lines (contents_of tale) (writes_of old side lines)
 stages_of old side lines s tale sound whole replay told of next =
@@ -139,16 +139,16 @@ store_by_of old side lines s round tale sound whole replay told next store = rec
   stages = subst (λ (n : ℕ). StagesRecord (spare_place (header_for s) n (rounds_of s n)) lines (contents_of tale) (writes_of old side lines)) (sym store.side_is) (stages_of old side lines s tale sound whole replay told store.of next);
 }
 
-commit_is : (old : PairView) (side : ℕ) (lines : List Line) (s : Standing) → IsPairOf old s → IsNext old side lines → commit_ops side (round_of old side + 1) ≡ commit_ops side (rounds_of s side + 1)
+commit_is : (old : PairView) (side : ℕ) (lines : List Line) (s : Standing) → IsPairOf old s → IsNext old side lines → commit_ops side (round_of_side old side + 1) ≡ commit_ops side (rounds_of s side + 1)
 commit_is old side lines s of next = ap (λ (n : ℕ). commit_ops side (n + 1)) (of.rounds side (sides_few old.head.kind side next.here))
 
 -- the operations of a store are those of the round
-stored_is : (old : PairView) (side : ℕ) (lines : List Line) (s : Standing) (round : Round) → IsPairOf old s → round.side ≡ side → IsNext old side lines → stored_ops old.head side (side_of old side) lines ≡ store_by (writes_of old side lines) (header_for s) round.side (rounds_of s round.side)
+stored_is : (old : PairView) (side : ℕ) (lines : List Line) (s : Standing) (round : Round) → IsPairOf old s → round.side ≡ side → IsNext old side lines → stored_ops old.head side (view_of_side old side) lines ≡ store_by (writes_of old side lines) (header_for s) round.side (rounds_of s round.side)
 stored_is old side lines s round of side_is next =
     (λ i. staged_is old side lines s of next i ++ commit_is old side lines s of next i) ∙ ap (λ (n : ℕ). store_by (writes_of old side lines) (header_for s) n (rounds_of s n)) (sym side_is)
 
 -- a store over lines that represent s makes them represent what is after the round
-pub stored_represents : (side : ℕ) (lines : List Line) (old : PairView) (s : Standing) (round : Round) (image : List Line) → IsPair old → old.device.now ≡ Some image → IsNext old side lines → IsPairOf old s → round.side ≡ side → Represents image s → IsNextRecord image s round lines → HasCells image [] s round → Represents (contents image (stored_ops old.head side (side_of old side) lines)) (after_round s round)
+pub stored_represents : (side : ℕ) (lines : List Line) (old : PairView) (s : Standing) (round : Round) (image : List Line) → IsPair old → old.device.now ≡ Some image → IsNext old side lines → IsPairOf old s → round.side ≡ side → Represents image s → IsNextRecord image s round lines → HasCells image [] s round → Represents (contents image (stored_ops old.head side (view_of_side old side) lines)) (after_round s round)
 stored_represents side lines old s round image sound now next of side_is stands record_is cells =
     subst (λ (ops : List LogOp). Represents (contents image ops) (after_round s round)) (sym (stored_is old side lines s round of side_is next))
     (only_member (contents image (store_by (writes_of old side lines) (header_for s) round.side (rounds_of s round.side))) (after_round s round) (store_by_whole begun).ready.holds)
@@ -180,7 +180,7 @@ not_true e = absurd (cc)
 pub failed_store_covers : (side : ℕ) (lines : List Line) (old : PairView) (fault : DeviceFault) (new : PairView) → IsPair old → IsWhole old.device → IsReplay old.device → IsNext old side lines → HasFailedStore side lines old fault new → FailedStoreCovers side lines old new
 failed_store_covers side lines old fault new sound whole replay next failed = go failed.called failed.failed.doubt failed.failed.device.stops
   where
-    go : (called : Bool) → new.doubt ≡ doubt_of side lines called → Stops (IsFailedStore old.head side (side_of old side) lines called) old.device new.device → FailedStoreCovers side lines old new
+    go : (called : Bool) → new.doubt ≡ doubt_of side lines called → Stops (IsFailedStore old.head side (view_of_side old side) lines called) old.device new.device → FailedStoreCovers side lines old new
     go false doubt stops = record {
       stopped = λ before tale s told ready of.
           told_exit stops.ops (told_after old.device.told new.device.told tale stops.ops told stops.told)
@@ -191,9 +191,9 @@ failed_store_covers side lines old fault new sound whole replay next failed = go
       stopped = λ before. not_false (sym (ap was_called doubt) ∙ before);
       in_doubt = λ called tale s round told store.
           let by = store_by_of old side lines s round tale sound whole replay told next store in
-          let staged : staged_ops old.head side (side_of old side) lines ≡ stage_by (writes_of old side lines) (header_for s) round.side (rounds_of s round.side) =
+          let staged : staged_ops old.head side (view_of_side old side) lines ≡ stage_by (writes_of old side lines) (header_for s) round.side (rounds_of s round.side) =
           staged_is old side lines s store.of next ∙ ap (λ (n : ℕ). stage_by (writes_of old side lines) (header_for s) n (rounds_of s n)) (sym store.side_is) in
-          let commits : commit_ops side (round_of old side + 1) ≡ commit_ops round.side (rounds_of s round.side + 1) =
+          let commits : commit_ops side (round_of_side old side + 1) ≡ commit_ops round.side (rounds_of s round.side + 1) =
           commit_is old side lines s store.of next ∙ ap (λ (n : ℕ). commit_ops n (rounds_of s n + 1)) (sym store.side_is) in
           let ops : List LogOp = stage_by (writes_of old side lines) (header_for s) round.side (rounds_of s round.side) ++ stops.cut.tail in
           let is : stops.ops ≡ ops = stops.cut.whole ∙ ap (λ (front : List LogOp). front ++ stops.cut.tail) staged in

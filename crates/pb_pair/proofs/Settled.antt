@@ -21,7 +21,7 @@ use Rattle.pb_pair.specs.declared.known.Known.TheVariants.{Sure}
 use Rattle.pb_pair.specs.declared.side.Side.{Side}
 use Rattle.pb_pair.specs.declared.side.Sides.{Sides}
 use Rattle.pb_pair.specs.Settle.{was_called, called_in, called_on, settled_by, settled_side, settled_ops, IsSettled}
-use Rattle.pb_pair.specs.View.{SideView, DoubtView, PairView, at_side, side_of, round_of, lines_of, forgotten, side_view, doubt_view, pair_view, IsSide, HoldsSide, IsDoubt, HoldsRecords, IsPair}
+use Rattle.pb_pair.specs.View.{SideView, DoubtView, PairView, at_side, view_of_side, round_of_side, lines_of, forgotten, side_view, doubt_view, pair_view, IsSide, HoldsSide, IsDoubt, HoldsRecords, IsPair}
 use Rattle.pb_pair.proofs.HeldRecords.{SparesRecords, settle_spares, kept_where_told}
 
 same_number : (a b : ℕ) → (a == b) ≡ true → a ≡ b
@@ -135,10 +135,10 @@ settled-held head image (Some d) side part in_use in_doubt = by (d.called && (d.
 settled_holds : (old : PairView) (device : Device) (image : List Line) → HoldsRecords old image → HoldsRecords (settled_as old device) image
 settled_holds old device image holds = record { in_use = in_use; in_doubt = λ doubt is called. absurd (cc) }
   where
-    of_side : (side : ℕ) (d : DoubtView) → old.doubt ≡ Some d → d.called ≡ true → d.side ≡ side → record_in_use image old.head side (round_of old side + 1) ≡ d.lines
-    of_side side d is called same = subst (λ (n : ℕ). record_in_use image old.head n (round_of old n + 1) ≡ d.lines) same (holds.in_doubt d is called)
+    of_side : (side : ℕ) (d : DoubtView) → old.doubt ≡ Some d → d.called ≡ true → d.side ≡ side → record_in_use image old.head side (round_of_side old side + 1) ≡ d.lines
+    of_side side d is called same = subst (λ (n : ℕ). record_in_use image old.head n (round_of_side old n + 1) ≡ d.lines) same (holds.in_doubt d is called)
 
-    in_use : (side : ℕ) → side < side_count old.head.kind → record_in_use image old.head side (round_of (settled_as old device) side) ≡ lines_of (settled_as old device) side
+    in_use : (side : ℕ) → side < side_count old.head.kind → record_in_use image old.head side (round_of_side (settled_as old device) side) ≡ lines_of (settled_as old device) side
     in_use zero here = settled-held old.head image old.doubt 0 old.first (holds.in_use 0 here) (of_side 0)
     in_use (suc side) here =
         let low = few_sides old.head.kind in
@@ -161,14 +161,14 @@ settled_pair old device sound unsure does = record {
   decided = λ other. refl;
 }
   where
-    sides : (side : ℕ) → side < side_count old.head.kind → IsSide old.head side (side_of (settled_as old device) side)
+    sides : (side : ℕ) → side < side_count old.head.kind → IsSide old.head side (view_of_side (settled_as old device) side)
     sides zero here = settled-side old.head old.first old.second old.doubt 0 sound.in_doubt (sound.sides 0 here)
     sides (suc side) here =
         let low = few_sides old.head.kind in
         let one : 1 ≡ suc side = omega arith in
         subst (λ (n : ℕ). IsSide old.head n (settled_side old.doubt 1 old.second)) one (settled-side old.head old.first old.second old.doubt 1 sound.in_doubt (sound.sides 1 (omega arith)))
 
-    holds : (image : List Line) (side : ℕ) → HoldsSide old.head side (side_of (settled_as old device) side) image
+    holds : (image : List Line) (side : ℕ) → HoldsSide old.head side (view_of_side (settled_as old device) side) image
     holds image zero = unknown_holds old.head 0 (settled_side old.doubt 0 old.first) image (settled-forgotten old.doubt 0 old.first (sound.unsure_first unsure))
     holds image (suc side) = unknown_holds old.head (suc side) (settled_side old.doubt 1 old.second) image (settled-forgotten old.doubt 1 old.second (sound.unsure_second unsure))
 

@@ -10,7 +10,7 @@ use Rattle.pb_pair.specs.declared.known.Known.{Known}
 use Rattle.pb_pair.specs.declared.known.Known.TheVariants.{Sure, Failed}
 use Rattle.pb_pair.specs.declared.side.Sides.{Sides}
 use Rattle.pb_pair.specs.Store.{IsNext, IsStored, IsFailedStore, doubt_of, StoresSides, StopsSides, HasFailedStore}
-use Rattle.pb_pair.specs.View.{DoubtView, at_side, side_of, side_view, doubt_view, pair_view, IsDoubt, IsPair, HasForgotten}
+use Rattle.pb_pair.specs.View.{DoubtView, at_side, view_of_side, side_view, doubt_view, pair_view, IsDoubt, IsPair, HasForgotten}
 use Rattle.pb_pair.proofs.Pairs.{stored_as, stored_pair, after_failed_store, IsFailedAs, has_failed, sure_not_failed}
 
 no_doubt : (sides more : Sides) (doubt : Option Doubt) → option_map (doubt_view sides) doubt ≡ None → option_map (doubt_view more) doubt ≡ None
@@ -55,9 +55,9 @@ fails_storing device head old mid final known now doubt side lines called before
         let found : IsDoubt head (side_view old.first) (side_view old.second) this = record { here = next.here; long = next.long; own = next.own } in
         subst (IsDoubt head (side_view old.first) (side_view old.second)) is found
 
-pub has_failed_store : (device new : Device) (head : Header) (old mid final : Sides) (known now : Known) (doubt : Option Doubt) (side : ℕ) (lines : List Line) (called : Bool) (fault : DeviceFault) → IsPair (pair_view device head old known doubt) → IsWhole device → IsReplay device → IsNext (pair_view device head old known doubt) side lines → StopsSides head side lines called old mid device new → HasForgotten mid final → now ≡ Failed → StopsBy (IsFailedStore head side (side_of (pair_view device head old known doubt) side) lines called) fault device new → HasFailedStore side lines (pair_view device head old known doubt) fault (pair_view new head final now (Some (record { side = side; called = called })))
+pub has_failed_store : (device new : Device) (head : Header) (old mid final : Sides) (known now : Known) (doubt : Option Doubt) (side : ℕ) (lines : List Line) (called : Bool) (fault : DeviceFault) → IsPair (pair_view device head old known doubt) → IsWhole device → IsReplay device → IsNext (pair_view device head old known doubt) side lines → StopsSides head side lines called old mid device new → HasForgotten mid final → now ≡ Failed → StopsBy (IsFailedStore head side (view_of_side (pair_view device head old known doubt) side) lines called) fault device new → HasFailedStore side lines (pair_view device head old known doubt) fault (pair_view new head final now (Some (record { side = side; called = called })))
 has_failed_store device new head old mid final known now doubt side lines called fault sound whole replay next stops same failed by = record {
   called = called;
-  failed = has_failed (IsFailedStore head side (side_of (pair_view device head old known doubt) side) lines called) (pair_view device head old known doubt) new final now (Some (record { side = side; called = called })) (doubt_of side lines called) fault sound (fails_storing device head old mid final known now doubt side lines called device new next stops same failed)
+  failed = has_failed (IsFailedStore head side (view_of_side (pair_view device head old known doubt) side) lines called) (pair_view device head old known doubt) new final now (Some (record { side = side; called = called })) (doubt_of side lines called) fault sound (fails_storing device head old mid final known now doubt side lines called device new next stops same failed)
       (after_failed_store called (pair_view device head old known doubt) new side lines sound whole replay next by.stops) by;
 }

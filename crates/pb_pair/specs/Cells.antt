@@ -4,9 +4,8 @@ use Rattle.pb_pmem.specs.declared.log.LogOp.{LogOp}
 use Rattle.pb_pmem.specs.Lines.{word_of}
 use Rattle.pb_pmem.specs.Operations.{Does}
 use Rattle.pb_object.specs.declared.kind.Kind.TheVariants.{Queue}
-use Rattle.pb_layout.specs.declared.header.Header.{Header}
-use Rattle.pb_layout.specs.Cell.{cell_line_of}
-use Rattle.pb_layout.specs.PutCell.{put_cell_ops}
+
+use Rattle.pb_layout.specs.PutCell.{put_ops}
 use Rattle.pb_layout.specs.Represents.{object_parts}
 use Rattle.pb_pair.specs.declared.known.Known.TheVariants.{Sure}
 use Rattle.pb_pair.specs.View.{PairView, IsPair, lines_of}
@@ -16,19 +15,15 @@ abbrev pub tail_in : PairView → ℕ
 tail_in pair = word_of (object_parts pair.head (lines_of pair)) 0 0
 
 -- the position of the first item that waits, by the records in use
-abbrev pub taken_in : PairView → ℕ
-taken_in pair = word_of (object_parts pair.head (lines_of pair)) 1 0
+abbrev pub taken_by_records : PairView → ℕ
+taken_by_records pair = word_of (object_parts pair.head (lines_of pair)) 1 0
 
 -- a position whose cell may be put: that of no waiting item
 pub record IsFree (pair : PairView) (position : ℕ) : Type 0 where
   pub queue : pair.head.kind ≡ Queue
   pub known : pair.known ≡ Sure
   pub after : tail_in pair ≤ position
-  pub room : position < taken_in pair + pair.head.size
-
--- the operations of putting a cell
-abbrev pub put_ops : Header → ℕ → ℕ → List LogOp
-put_ops head position value = put_cell_ops head position (cell_line_of position value)
+  pub room : position < taken_by_records pair + pair.head.size
 
 -- the cell is put: else the pair is as before
 pub record HasPut (position value : ℕ) (old new : PairView) : Type 0 where

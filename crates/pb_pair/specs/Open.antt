@@ -11,13 +11,13 @@ use Rattle.pb_pair.specs.declared.why.Stop.{Stop}
 use Rattle.pb_pair.specs.declared.why.Stop.TheVariants.{NoMemory, Fault, WasTaken, WasEmpty, BadLine}
 use Rattle.pb_pair.specs.declared.why.Why.{Why}
 use Rattle.pb_pair.specs.declared.why.Why.TheVariants.{Memory, Device as DeviceWhy, Taken, NoRegion, Damaged}
-use Rattle.pb_pair.specs.View.{PairView, IsPair, HasRoom, pair_view, round_of, lines_of}
+use Rattle.pb_pair.specs.View.{PairView, IsPair, HasRoom, pair_view, round_of_side, lines_of}
 
 -- a pair that says what the lines say, which pass all checks that opening makes
 pub record IsReadFrom (pair : PairView) (image : List Line) : Type 0 where
   pub passes : AllPass (opening_checks image)
   pub head : pair.head ≡ header_in image
-  pub rounds : (side : ℕ) → side < side_count pair.head.kind → round_of pair side ≡ round_in image side
+  pub rounds : (side : ℕ) → side < side_count pair.head.kind → round_of_side pair side ≡ round_in image side
   pub records : (side : ℕ) → side < side_count pair.head.kind → lines_of pair side ≡ record_in image side
 
 -- the pair of a device whose region was opened

@@ -13,7 +13,7 @@ use Rattle.pb_layout.specs.Recovered.{Represents}
 use Rattle.pb_layout.specs.Represents.{header_for, object_parts}
 use Rattle.pb_layout.specs.ToldExits.{IsCoveredExit, HasPublished, IsInDoubt, AllSealed, StaysLanded, contents_of, IsReadyWith}
 use Rattle.pb_pair.specs.Settle.{was_called}
-use Rattle.pb_pair.specs.View.{DoubtView, PairView, round_of, lines_of}
+use Rattle.pb_pair.specs.View.{DoubtView, PairView, round_of_side, lines_of}
 
 -- Formatting
 
@@ -30,7 +30,7 @@ FailedFormatCovers head first second old new =
 -- a pair of a region that represents s
 pub record IsPairOf (pair : PairView) (s : Standing) : Type 0 where
   pub head : pair.head ≡ header_for s
-  pub rounds : (side : ℕ) → side < 2 → round_of pair side ≡ rounds_of s side
+  pub rounds : (side : ℕ) → side < 2 → round_of_side pair side ≡ rounds_of s side
 
 -- Putting a cell
 

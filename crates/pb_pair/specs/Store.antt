@@ -12,7 +12,7 @@ use Rattle.pb_layout.specs.Record.{IsRecord}
 use Rattle.pb_layout.specs.RegionOps.{stage_over, store_over, commit_ops, spare_place}
 use Rattle.pb_pair.specs.declared.known.Known.TheVariants.{Sure}
 use Rattle.pb_pair.specs.declared.side.Sides.{Sides}
-use Rattle.pb_pair.specs.View.{SideView, DoubtView, PairView, IsPair, HasFailed, side_of, side_view, round_of, if_known, at_side, forgotten}
+use Rattle.pb_pair.specs.View.{SideView, DoubtView, PairView, IsPair, HasFailed, view_of_side, side_view, round_of_side, if_known, at_side, forgotten}
 
 -- the lines are written where the side's spare record is, given to the device and fenced
 abbrev pub staged_ops : Header → ℕ → SideView → List Line → List LogOp
@@ -30,12 +30,12 @@ stored_side part lines = record { round = part.round + 1; lines = lines; written
 pub record IsNext (pair : PairView) (side : ℕ) (lines : List Line) : Type 0 where
   pub here : side < side_count pair.head.kind
   pub long : length lines ≡ record_length pair.head
-  pub own : IsRecord pair.head side (round_of pair side + 1) lines
+  pub own : IsRecord pair.head side (round_of_side pair side + 1) lines
 
 -- the lines are stored: they are the record in use, and there is one round more; the other side is as before
 pub record IsStored (side : ℕ) (lines : List Line) (old new : PairView) : Type 0 where
   pub sound : IsPair new
-  pub device : Does (stored_ops old.head side (side_of old side) lines) old.device new.device
+  pub device : Does (stored_ops old.head side (view_of_side old side) lines) old.device new.device
   pub head : new.head ≡ old.head
   pub first : new.first ≡ at_side (stored_side old.first lines) old.first side
   pub second : new.second ≡ at_side old.second (stored_side old.second lines) side
@@ -81,4 +81,4 @@ pub record StopsSides (head : Header) (side : ℕ) (lines : List Line) (called :
 -- a store that failed: its record is in doubt, and whether its index word had been called
 pub record HasFailedStore (side : ℕ) (lines : List Line) (old : PairView) (fault : DeviceFault) (new : PairView) : Type 0 where
   pub called : Bool
-  pub failed : HasFailed (IsFailedStore old.head side (side_of old side) lines called) (doubt_of side lines called) old fault new
+  pub failed : HasFailed (IsFailedStore old.head side (view_of_side old side) lines called) (doubt_of side lines called) old fault new

@@ -47,16 +47,16 @@ at_side first second zero = first
 at_side first second (suc side) = second
 
 -- the side of a pair with this number
-abbrev pub side_of : PairView → ℕ → SideView
-side_of pair side = at_side pair.first pair.second side
+abbrev pub view_of_side : PairView → ℕ → SideView
+view_of_side pair side = at_side pair.first pair.second side
 
 -- a side's round number
-abbrev pub round_of : PairView → ℕ → ℕ
-round_of pair side = (side_of pair side).round
+abbrev pub round_of_side : PairView → ℕ → ℕ
+round_of_side pair side = (view_of_side pair side).round
 
 -- the lines of a side's record in use
 abbrev pub lines_of : PairView → ℕ → List Line
-lines_of pair side = (side_of pair side).lines
+lines_of pair side = (view_of_side pair side).lines
 
 -- a side that isn't there
 abbrev pub no_side : SideView
@@ -126,16 +126,16 @@ pub record IsDoubt (head : Header) (first second : SideView) (doubt : DoubtView)
 
 -- lines that hold a pair's records in use, and, where the index word of the record in doubt was called, that one as its side's next
 pub record HoldsRecords (pair : PairView) (image : List Line) : Type 0 where
-  pub in_use : (side : ℕ) → side < side_count pair.head.kind → record_in_use image pair.head side (round_of pair side) ≡ lines_of pair side
+  pub in_use : (side : ℕ) → side < side_count pair.head.kind → record_in_use image pair.head side (round_of_side pair side) ≡ lines_of pair side
   pub in_doubt : (doubt : DoubtView) → pair.doubt ≡ Some doubt → doubt.called ≡ true
-      → record_in_use image pair.head doubt.side (round_of pair doubt.side + 1) ≡ doubt.lines
+      → record_in_use image pair.head doubt.side (round_of_side pair doubt.side + 1) ≡ doubt.lines
 
 -- the sides are those that the header says, and what the pair knows of the device is so
 pub record IsPair (pair : PairView) : Type 0 where
   pub valid : IsHeader pair.head
-  pub sides : (side : ℕ) → side < side_count pair.head.kind → IsSide pair.head side (side_of pair side)
+  pub sides : (side : ℕ) → side < side_count pair.head.kind → IsSide pair.head side (view_of_side pair side)
   pub one_side : side_count pair.head.kind ≡ 1 → pair.second ≡ no_side
-  pub holds : (image : List Line) → pair.device.now ≡ Some image → (side : ℕ) → side < side_count pair.head.kind → HoldsSide pair.head side (side_of pair side) image
+  pub holds : (image : List Line) → pair.device.now ≡ Some image → (side : ℕ) → side < side_count pair.head.kind → HoldsSide pair.head side (view_of_side pair side) image
   -- a device that tells its log holds the records, whether the pair knows that or not
   pub records : (tale : Tale) → pair.device.told ≡ Some tale → HoldsRecords pair (contents_of tale)
   -- a pair that isn't sure knows nothing of what the device's records hold, and has a record in doubt only after a call that failed

@@ -5,7 +5,7 @@ ghost use Rattle.pb_pmem.specs.Operations.{IsFailedPrefix, Does, Stops};
 ghost use Rattle.pb_object.specs.declared.kind.Kind.TheVariants.{Queue};
 ghost use Rattle.pb_layout.specs.Shape.{IsHeader};
 ghost use Rattle.pb_layout.specs.Region.{cell_place};
-ghost use Rattle.pb_pair.specs.Cells.{put_ops};
+ghost use Rattle.pb_layout.specs.PutCell.{put_ops};
 
 use pb_layout::{Header, cell, cell_line};
 use pb_pmem::{Line, LogOp, Pmem, PmemFault, make_all};

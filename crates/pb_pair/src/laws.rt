@@ -11,7 +11,8 @@ ghost use Rattle.pb_layout.specs.Represents.{header_for, record_in_use, record_o
 ghost use Rattle.pb_layout.specs.ToldExits.{contents_of, IsReadyWith, StaysFound};
 ghost use Rattle.pb_pair.specs.declared.why.Why.{Why};
 ghost use Rattle.pb_pair.specs.declared.why.Why.TheVariants.{Memory, Device as DeviceWhy};
-ghost use Rattle.pb_pair.specs.Cells.{IsNothing, put_ops};
+ghost use Rattle.pb_pair.specs.Cells.{IsNothing};
+ghost use Rattle.pb_layout.specs.PutCell.{put_ops};
 ghost use Rattle.pb_pair.specs.Open.{IsOpened, IsOpenRefusal};
 ghost use Rattle.pb_pair.specs.Safe.{IsPairOf, IsStoreOf, IsDoubtOf};
 ghost use Rattle.pb_pair.specs.Settle.{IsSettled, settled_ops, was_called};

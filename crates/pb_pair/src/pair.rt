@@ -44,13 +44,14 @@ impl<P: Pmem> Pair<P> {
     ghost use Rattle.pb_object.specs.Standing.{side_count};
     ghost use Rattle.pb_layout.specs.Region.{cell_place};
     ghost use Rattle.pb_pair.specs.declared.known.Known.TheVariants.{Sure, Opened, Failed};
-    ghost use Rattle.pb_pair.specs.Cells.{IsFree, IsNothing, HasPut, put_ops};
+    ghost use Rattle.pb_pair.specs.Cells.{IsFree, IsNothing, HasPut};
+    ghost use Rattle.pb_layout.specs.PutCell.{put_ops};
     ghost use Rattle.pb_pair.specs.Format.{AreFirst, IsFormatted, IsFormatRefusal};
     ghost use Rattle.pb_pair.specs.Open.{IsOpened, IsOpenRefusal};
     ghost use Rattle.pb_pair.specs.Safe.{FormatCovers, FailedFormatCovers, PutCovers, StoreCovers, FailedStoreCovers, SettleCovers, FailedSettleCovers};
     ghost use Rattle.pb_pair.specs.Settle.{IsSettled, settled_ops, was_called};
     ghost use Rattle.pb_pair.specs.Store.{IsNext, IsStored, IsFailedStore, HasFailedStore};
-    ghost use Rattle.pb_pair.specs.View.{PairView, IsPair, HasFailed, round_of, lines_of};
+    ghost use Rattle.pb_pair.specs.View.{PairView, IsPair, HasFailed, round_of_side, lines_of};
 
     /// Makes a region on a device that has none, with these first records of its sides. The pair is sure.
     ///
@@ -120,7 +121,7 @@ impl<P: Pmem> Pair<P> {
     /// How many rounds of a side there were.
     pub fn round(&self, side: u32) -> u64
         requires { side < side_count self.now.head.kind }
-        ensures { result ≡ round_of self.now side }
+        ensures { result ≡ round_of_side self.now side }
     {
         if side == 0 {
             self.sides.first.round

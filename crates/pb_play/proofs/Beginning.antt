@@ -22,8 +22,8 @@ use Rattle.pb_core.specs.DeviceParts.{IsWorld, IsSteady, opened_state}
 use Rattle.pb_core.specs.HolderMoves.{entries_by, round_by, Begins}
 use Rattle.pb_core.specs.Laws.{AreDue}
 use Rattle.pb_core.specs.Memory as core
-use Rattle.pb_core.specs.Memory.{Memory, clients_of, shown, known}
-use Rattle.pb_core.specs.World.{Progress, NoCall, InCall, World, IsRoundPlan}
+use Rattle.pb_core.specs.Memory.{Memory, clients_of, shown, known_standing}
+use Rattle.pb_core.specs.World.{CallProgress, NoCall, InCall, World, IsRoundPlan}
 use Rattle.pb_core.specs.WorldMoves.{begins_calls}
 use Rattle.pb_core.proofs.Devices.{steady_holds}
 use Rattle.pb_core.proofs.Holding.{begins_due, begins_own}
@@ -41,14 +41,14 @@ use Rattle.pb_play.specs.declared.work.Part.TheVariants.{AtNumber}
 use Rattle.pb_play.specs.declared.work.Work.TheVariants.{Scanning}
 use Rattle.pb_play.specs.declared.world.World.{World as CodeWorld}
 use Rattle.pb_play.specs.Device.{ShowsProgress}
-use Rattle.pb_core.specs.Play.{IsCallable, IsReady, IsPlayedPlan, silently}
+use Rattle.pb_core.specs.Play.{IsCallable, IsReadyForStep, IsPlayedPlan, silently}
 use Rattle.pb_engine.specs.Operations.{cell_ops}
 use Rattle.pb_round_play.specs.Rounds.{with_rows, MayBegin, MakesRecord}
-use Rattle.pb_play.specs.Rounds.{RepeatsRows, asks_of}
+use Rattle.pb_play.specs.Rounds.{RepeatsRows, scanned_asks}
 use Rattle.pb_round_play.specs.Seats.{seat_at}
 use Rattle.pb_play.specs.Seats.{begins_round}
 use Rattle.pb_play.specs.Shown.{ShowsSeat, rows_for, IsRowOf, ShowsMemory}
-use Rattle.pb_play.specs.Worlds.{ShowsWorld, GoesOn}
+use Rattle.pb_play.specs.Worlds.{ShowsWorld, GoesOnUnseen}
 use Rattle.pb_play.proofs.Clients.{clients_few}
 use Rattle.pb_play.proofs.Fitting.{header_after}
 use Rattle.pb_round_play.proofs.NextRecords.{round_count, counted_side}
@@ -95,23 +95,23 @@ pub record IsOver (old : CodeWorld) (w : World) (client side : ℕ) : Type 0 whe
   pub over : old.memory.work ≡ Scanning old.head.clients AtNumber
   pub idle : old.calls.going ≡ false
 
-abbrev begin_move : {old : CodeWorld} {w : World} {client side : ℕ} → IsOver old w client side → Begins w.memory client (record (w.memory) { ahead = Some (round_by side (known w.memory) (asks_of old.memory)); work = core.Calling; engine = core.Writing })
+abbrev begin_move : {old : CodeWorld} {w : World} {client side : ℕ} → IsOver old w client side → Begins w.memory client (record (w.memory) { ahead = Some (round_by side (known_standing w.memory) (scanned_asks old.memory)); work = core.Calling; engine = core.Writing })
 begin_move {old} {w} {client} {side} o = record {
   side = side;
   holds = o.holds;
-  seen = asks_of old.memory;
-  at = works_at o.shows.memory o.over ∙ ap (λ (n : ℕ). core.Scanning n core.AtNumber (asks_of old.memory)) (ap (λ (h : Header). h.clients) (sym o.shows.head));
+  seen = scanned_asks old.memory;
+  at = works_at o.shows.memory o.over ∙ ap (λ (n : ℕ). core.Scanning n core.AtNumber (scanned_asks old.memory)) (ap (λ (h : Header). h.clients) (sym o.shows.head));
   is = refl;
 }
 
 steady : {old : CodeWorld} {w : World} {client side : ℕ} → IsOver old w client side → IsSteady w.tale (opened_state w.memory) w.memory.published
 steady {old} {w} o =
-    fits_in w core.Resting NoCall (no_call o.shows.device o.idle) (work_suits (core.Scanning (clients_of w.memory) core.AtNumber (asks_of old.memory)) o.is.memory_is o.holds (begin_move o).at).0 o.is
+    fits_in w core.Resting NoCall (no_call o.shows.device o.idle) (work_suits (core.Scanning (clients_of w.memory) core.AtNumber (scanned_asks old.memory)) o.is.memory_is o.holds (begin_move o).at).0 o.is
 
 stands_in : {old : CodeWorld} {w : World} {client side : ℕ} → IsOver old w client side → Represents (contents w.tale.base w.tale.log) (shown w.memory)
 stands_in {old} {w} o = subst (Represents (contents w.tale.base w.tale.log)) (sym (shown_is w.memory)) (steady_holds (steady o))
 
-pub may_begin : {old : CodeWorld} {w : World} {client side : ℕ} → IsOver old w client side → MayBegin old.head old.device.lines.items old.memory.rounds (asks_of old.memory) side (shown w.memory)
+pub may_begin : {old : CodeWorld} {w : World} {client side : ℕ} → IsOver old w client side → MayBegin old.head old.device.lines.items old.memory.rounds (scanned_asks old.memory) side (shown w.memory)
 may_begin {old} {w} {client} {side} o = record {
   head_is = header_after w.memory.start (w.memory.past ++ w.memory.published) ∙ o.shows.head;
   stands = subst (λ (ls : List Line). Represents ls (shown w.memory)) o.shows.device.lines (stands_in o);
@@ -121,7 +121,7 @@ may_begin {old} {w} {client} {side} o = record {
 }
   where
     asks : List Ask
-    asks = asks_of old.memory
+    asks = scanned_asks old.memory
 
     due : AreDue (shown w.memory) side 0 asks
     due = begins_due o.is.memory_is (begin_move o)
@@ -141,7 +141,7 @@ pub record HasBegun (old new : CodeWorld) (side : ℕ) : Type 0 where
   pub long : length repeated.seats ≡ 16
   pub rows : List Seat
   pub cells : List LogOp
-  pub made : (s : Standing) → MayBegin old.head old.device.lines.items old.memory.rounds (asks_of old.memory) side s → MakesRecord old.device.lines.items s (asked_round s (asks_of old.memory)) repeated.seats new.next.items rows cells
+  pub made : (s : Standing) → MayBegin old.head old.device.lines.items old.memory.rounds (scanned_asks old.memory) side s → MakesRecord old.device.lines.items s (asked_round s (scanned_asks old.memory)) repeated.seats new.next.items rows cells
   pub count : ℕ
   pub counted : count ≡ round_count side old.memory.rounds
   pub plan : new.calls.plan.items ≡ cells ++ store_over old.head side count (Some (record_in_use old.device.lines.items old.head side (count + 1))) new.next.items
@@ -152,16 +152,16 @@ pub record HasBegun (old new : CodeWorld) (side : ℕ) : Type 0 where
   pub head : new.head ≡ old.head
 
 -- a scan that is over isn't the next step
-over_scan : (w : World) {asks : List Ask} → w.memory.work ≡ core.Scanning (clients_of w.memory) core.AtNumber asks → IsReady w.memory.work (clients_of w.memory) w.progress → ⊥
+over_scan : (w : World) {asks : List Ask} → w.memory.work ≡ core.Scanning (clients_of w.memory) core.AtNumber asks → IsReadyForStep w.memory.work (clients_of w.memory) w.progress → ⊥
 over_scan w {asks} at ready =
-    let below : clients_of w.memory < clients_of w.memory = subst (λ (x : core.Work). IsReady x (clients_of w.memory) w.progress) at ready in
+    let below : clients_of w.memory < clients_of w.memory = subst (λ (x : core.Work). IsReadyForStep x (clients_of w.memory) w.progress) at ready in
     omega (arith, below)
 
 -- a plan with a first call is to be made
 first_callable : (entry plan : List LogOp) → ((first : LogOp) × (rest : List LogOp) × (plan ≡ first ∷ rest)) → IsCallable (InCall entry [] plan)
 first_callable entry plan some = subst (λ (l : List LogOp). IsCallable (InCall entry [] l)) (sym some.2) tt
 
-pub begins_on : {old new : CodeWorld} {w : World} {client side : ℕ} → IsOver old w client side → HasBegun old new side → GoesOn w new
+pub begins_on : {old new : CodeWorld} {w : World} {client side : ℕ} → IsOver old w client side → HasBegun old new side → GoesOnUnseen w new
 begins_on {old} {new} {w} {client} {side} o b = record {
   middle = record { memory = next; tale = w.tale; progress = progress };
   before = silently (λ ready. over_scan w (begin_move o).at ready) (begins_calls (record { client = client; there = o.there; next = next; move = begin_move o; idle = no_call o.shows.device o.idle; plan = new.calls.plan.items; planned = planned; is = refl })) played;
@@ -185,7 +185,7 @@ begins_on {old} {new} {w} {client} {side} o b = record {
     m = w.memory
 
     asks : List Ask
-    asks = asks_of old.memory
+    asks = scanned_asks old.memory
 
     may : MayBegin old.head old.device.lines.items old.memory.rounds asks side (shown m)
     may = may_begin o
@@ -193,19 +193,19 @@ begins_on {old} {new} {w} {client} {side} o b = record {
     made : MakesRecord old.device.lines.items (shown m) (asked_round (shown m) asks) b.repeated.seats new.next.items b.rows b.cells
     made = b.made (shown m) may
 
-    same_known : known m ≡ shown m
+    same_known : known_standing m ≡ shown m
     same_known = known_shown (clients_of m) core.AtNumber asks o.is.memory_is o.holds (begin_move o).at
 
     same_round : asked_round (shown m) asks ≡ round_by side (shown m) asks
     same_round = λ i. record { side = may.side_is i; entries = sym (same_entries (shown m) asks) i }
 
     round : Round
-    round = round_by side (known m) asks
+    round = round_by side (known_standing m) asks
 
     next : Memory
     next = record m { ahead = Some round; work = core.Calling; engine = core.Writing }
 
-    progress : Progress
+    progress : CallProgress
     progress = InCall w.tale.log [] new.calls.plan.items
 
     counted : b.count ≡ rounds_of (shown m) (side_asked asks)
@@ -229,10 +229,10 @@ begins_on {old} {new} {w} {client} {side} o b = record {
     shown_played =
         is_played_plan (shown m) (asked_round (shown m) asks) new.next.items new.calls.plan.items (stands_in o) next_is made.listed made.step plan_is
 
-    played : IsPlayedPlan w.tale (known m) round new.calls.plan.items
+    played : IsPlayedPlan w.tale (known_standing m) round new.calls.plan.items
     played = subst (λ (s : Standing). IsPlayedPlan w.tale s (round_by side s asks) new.calls.plan.items) (sym same_known) (subst (λ (r : Round). IsPlayedPlan w.tale (shown m) r new.calls.plan.items) same_round shown_played)
 
-    planned : IsRoundPlan w.tale (known m) round new.calls.plan.items
+    planned : IsRoundPlan w.tale (known_standing m) round new.calls.plan.items
     planned = subst (λ (s : Standing). IsRoundPlan w.tale s (round_by side s asks) new.calls.plan.items) (sym same_known) (subst (λ (r : Round). IsRoundPlan w.tale (shown m) r new.calls.plan.items) same_round shown_plan)
 
     callable : IsCallable progress
@@ -277,5 +277,5 @@ begins_on {old} {new} {w} {client} {side} o b = record {
       rounds = o.shows.memory.rounds;
     })
       where
-        same_after : entries ≡ entries_by (known m) asks
+        same_after : entries ≡ entries_by (known_standing m) asks
         same_after = sym (same_entries (shown m) asks) ∙ ap (λ (s : Standing). entries_by s asks) (sym same_known)

@@ -11,7 +11,7 @@ use Rattle.pb_layout.specs.Represents.{header_for}
 use Rattle.pb_events.specs.declared.event.Event.TheVariants.{Crash}
 use Rattle.pb_events.specs.declared.event.Stepped.TheVariants.{Went}
 use Rattle.pb_core.specs.DeviceParts.{IsWorld}
-use Rattle.pb_core.specs.Memory.{opened}
+use Rattle.pb_core.specs.Memory.{memory_at_opening}
 use Rattle.pb_core.specs.Possible.{MayCrash}
 use Rattle.pb_core.specs.World.{NoCall, World}
 use Rattle.pb_core.specs.Play.{at_once}
@@ -27,7 +27,7 @@ use Rattle.pb_play.specs.Worlds.{ShowsWorld, HasStepped}
 -- memory is what is found on the lines of a region
 abbrev pub IsFound : List Line → Header → CodeMemory → Type 0
 IsFound lines head memory =
-    (start : Standing) (past : History) (answers : List Entry) → Represents lines (state_after start past) → header_for start ≡ head → ShowsMemory memory (opened start past answers)
+    (start : Standing) (past : History) (answers : List Entry) → Represents lines (state_after start past) → header_for start ≡ head → ShowsMemory memory (memory_at_opening start past answers)
 
 pub crashes_to : {old : CodeWorld} {w : World} {memory : CodeMemory} {calls : Calls} {device : Device} (cut pick : ℕ) → IsWorld w → ShowsWorld old w → MayCrash w cut → calls.going ≡ false → device.base.items ≡ picked old.device.base.items old.device.log.items cut pick → device.lines.items ≡ device.base.items → device.log.items ≡ [] → IsFound device.lines.items old.head memory → HasStepped w (Crash cut pick) (record old { memory = memory; calls = calls; device = device }) Went
 crashes_to {old} {w} {memory} {calls} {device} cut pick is s may idle base_is lines_is log_is found =
@@ -35,7 +35,7 @@ crashes_to {old} {w} {memory} {calls} {device} cut pick is s may idle base_is li
     let image : List Line = picked w.tale.base w.tale.log cut pick in
     let left : image ≡ device.base.items = (λ i. picked (s.device.base i) (s.device.log i) cut pick) ∙ sym base_is in
     record {
-      next = record { memory = opened w.memory.start crash.kept w.memory.answers; tale = record { base = image; log = [] }; progress = NoCall };
+      next = record { memory = memory_at_opening w.memory.start crash.kept w.memory.answers; tale = record { base = image; log = [] }; progress = NoCall };
       step = record {
         middle = w;
         before = at_once tt refl;

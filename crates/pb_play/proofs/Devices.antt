@@ -8,7 +8,7 @@ use Rattle.pb_pmem.proofs.Lines.{length-contents, contents-append}
 use Rattle.pb_crash.specs.declared.leaves.Leaves.{Leaves}
 use Rattle.pb_crash.specs.Leaves.{left_by}
 use Rattle.pb_crash.specs.Within.{is_within}
-use Rattle.pb_core.specs.World.{Progress, NoCall, InCall}
+use Rattle.pb_core.specs.World.{CallProgress, NoCall, InCall}
 use Rattle.pb_core.proofs.Lists.{cut_on}
 use Rattle.pb_play.specs.declared.calls.Calls.{Calls}
 use Rattle.pb_play.specs.declared.device.Device.{Device}
@@ -32,20 +32,20 @@ device_adds {ops} {old} {new} adds is within fits = record {
 
 -- The next call
 
-callable_is : (calls : Calls) (progress : Progress) → ShowsProgress calls.going calls.plan.items calls.made progress → IsCallable progress → (calls.going ≡ true) × (calls.made < length calls.plan.items)
+callable_is : (calls : Calls) (progress : CallProgress) → ShowsProgress calls.going calls.plan.items calls.made progress → IsCallable progress → (calls.going ≡ true) × (calls.made < length calls.plan.items)
 callable_is calls progress shows due = go calls.going refl progress shows due
   where
-    go : (going : Bool) → calls.going ≡ going → (now : Progress) → ShowsProgress going calls.plan.items calls.made now → IsCallable now → (calls.going ≡ true) × (calls.made < length calls.plan.items)
+    go : (going : Bool) → calls.going ≡ going → (now : CallProgress) → ShowsProgress going calls.plan.items calls.made now → IsCallable now → (calls.going ≡ true) × (calls.made < length calls.plan.items)
     go false is NoCall s d = absurd d
     go false is (InCall entry made left) s d = absurd s
     go true is NoCall s d = absurd d
     go true is (InCall entry made []) s d = absurd d
     go true is (InCall entry made (op ∷ left)) s d = (is, omega (arith, s.count, ap length s.all, length-append made (op ∷ left)))
 
-pub callable_going : {calls : Calls} {device : Device} {tale : Tale} {progress : Progress} → ShowsDevice calls device tale progress → IsCallable progress → calls.going ≡ true
+pub callable_going : {calls : Calls} {device : Device} {tale : Tale} {progress : CallProgress} → ShowsDevice calls device tale progress → IsCallable progress → calls.going ≡ true
 callable_going {calls} {progress = progress} s due = (callable_is calls progress s.progress_is due).0
 
-pub callable_left : {calls : Calls} {device : Device} {tale : Tale} {progress : Progress} → ShowsDevice calls device tale progress → IsCallable progress → calls.made < length calls.plan.items
+pub callable_left : {calls : Calls} {device : Device} {tale : Tale} {progress : CallProgress} → ShowsDevice calls device tale progress → IsCallable progress → calls.made < length calls.plan.items
 callable_left {calls} {progress = progress} s due = (callable_is calls progress s.progress_is due).1
 
 -- the call at the place that is reached
@@ -71,15 +71,15 @@ adds_lines : {ops : List LogOp} {old new : Device} (tale : Tale) → AddsTo ops 
 adds_lines {ops} tale adds is = contents-append tale.base tale.log ops ∙ (ap (λ l. contents l ops) is ∙ sym adds.lines)
 
 -- where a call is due, it is the one at the place that is reached
-pub due_reached : {calls : Calls} {device : Device} {tale : Tale} {progress : Progress} {entry made left : List LogOp} {op : LogOp} → ShowsDevice calls device tale progress → progress ≡ InCall entry made (op ∷ left) → calls.going ≡ true → IsReached calls.plan.items calls.made made (op ∷ left)
+pub due_reached : {calls : Calls} {device : Device} {tale : Tale} {progress : CallProgress} {entry made left : List LogOp} {op : LogOp} → ShowsDevice calls device tale progress → progress ≡ InCall entry made (op ∷ left) → calls.going ≡ true → IsReached calls.plan.items calls.made made (op ∷ left)
 due_reached {calls} {entry = entry} {made = made} {left = left} {op = op} s is going =
     subst (λ (g : Bool). ShowsProgress g calls.plan.items calls.made (InCall entry made (op ∷ left))) going
-    (subst (λ (q : Progress). ShowsProgress calls.going calls.plan.items calls.made q) is s.progress_is)
+    (subst (λ (q : CallProgress). ShowsProgress calls.going calls.plan.items calls.made q) is s.progress_is)
 
-pub makes_call : {calls : Calls} {old new : Device} {tale : Tale} {progress : Progress} (op d : LogOp) → op ≡ get_or calls.plan.items calls.made d → AddsTo (op ∷ []) old new → ShowsDevice calls old tale progress → IsCallable progress → MakesCall tale progress (record calls { made = calls.made + 1 }) new
+pub makes_call : {calls : Calls} {old new : Device} {tale : Tale} {progress : CallProgress} (op d : LogOp) → op ≡ get_or calls.plan.items calls.made d → AddsTo (op ∷ []) old new → ShowsDevice calls old tale progress → IsCallable progress → MakesCall tale progress (record calls { made = calls.made + 1 }) new
 makes_call {calls} {old} {new} {tale} {progress} op d at adds s due = go progress refl due
   where
-    go : (now : Progress) → progress ≡ now → IsCallable now → MakesCall tale progress (record calls { made = calls.made + 1 }) new
+    go : (now : CallProgress) → progress ≡ now → IsCallable now → MakesCall tale progress (record calls { made = calls.made + 1 }) new
     go NoCall is due' = absurd due'
     go (InCall entry made []) is due' = absurd due'
     go (InCall entry made (next ∷ left)) is due' =
@@ -101,10 +101,10 @@ makes_call {calls} {old} {new} {tale} {progress} op d at adds s due = go progres
           };
         }
 
-pub fails_call : {calls : Calls} {old new : Device} {tale : Tale} {progress : Progress} (how : Leaves) (op d : LogOp) → op ≡ get_or calls.plan.items calls.made d → AddsTo (option_to_list (left_by how op)) old new → ShowsDevice calls old tale progress → IsCallable progress → FailsCall how tale progress (record calls { going = false }) new
+pub fails_call : {calls : Calls} {old new : Device} {tale : Tale} {progress : CallProgress} (how : Leaves) (op d : LogOp) → op ≡ get_or calls.plan.items calls.made d → AddsTo (option_to_list (left_by how op)) old new → ShowsDevice calls old tale progress → IsCallable progress → FailsCall how tale progress (record calls { going = false }) new
 fails_call {calls} {old} {new} {tale} {progress} how op d at adds s due = go progress refl due
   where
-    go : (now : Progress) → progress ≡ now → IsCallable now → FailsCall how tale progress (record calls { going = false }) new
+    go : (now : CallProgress) → progress ≡ now → IsCallable now → FailsCall how tale progress (record calls { going = false }) new
     go NoCall is due' = absurd due'
     go (InCall entry made []) is due' = absurd due'
     go (InCall entry made (next ∷ left)) is due' =

@@ -11,7 +11,7 @@ use Rattle.pb_events.specs.declared.event.Stepped.TheVariants.{Went}
 use Rattle.pb_core.specs.DeviceParts.{IsWorld, IsWriting, opened_state}
 use Rattle.pb_core.specs.Memory as core
 use Rattle.pb_core.specs.Memory.{Memory, clients_of, shown}
-use Rattle.pb_core.specs.World.{Progress, NoCall, InCall, World}
+use Rattle.pb_core.specs.World.{CallProgress, NoCall, InCall, World}
 use Rattle.pb_core.specs.WorldMoves.{failed, last_calls}
 use Rattle.pb_core.proofs.Devices.{first_calls, plan_cut}
 use Rattle.pb_core.proofs.Lists.{IsBefore, two_cuts}
@@ -186,7 +186,7 @@ fails_to_write {old} {w} {memory} {calls} {device} c side how is s holds there a
     go (inr cut) = commits cut.more cut.rest
 
 -- so many calls are left
-pub how_many : {calls : Calls} {device : Device} {tale : Tale} {progress : Progress} {entry made left : List LogOp} {op : LogOp} → ShowsDevice calls device tale progress → progress ≡ InCall entry made (op ∷ left) → IsCallable progress → length calls.plan.items - calls.made ≡ length (op ∷ left)
+pub how_many : {calls : Calls} {device : Device} {tale : Tale} {progress : CallProgress} {entry made left : List LogOp} {op : LogOp} → ShowsDevice calls device tale progress → progress ≡ InCall entry made (op ∷ left) → IsCallable progress → length calls.plan.items - calls.made ≡ length (op ∷ left)
 how_many {made = made} {left = left} {op = op} s at due =
     let reached = due_reached s at (callable_going s due) in
     omega (arith, reached.count, ap length reached.all, length-append made (op ∷ left))

@@ -12,7 +12,7 @@ use Rattle.pb_layout.proofs.OneRecovery.{parts}
 use Rattle.pb_layout_laws.proofs.FewRounds.{side_rounds_few, legal_few}
 use Rattle.pb_layout_laws.proofs.Rounds.{next_header, next_round_list, next_rounds_other}
 use Rattle.pb_core.specs.DeviceParts.{IsWorld, opened_state}
-use Rattle.pb_core.specs.Memory.{with_round, shown}
+use Rattle.pb_core.specs.Memory.{with_round_ahead, shown}
 use Rattle.pb_core.specs.World.{World}
 use Rattle.pb_core.proofs.Waiting.{held-small}
 use Rattle.pb_core.proofs.Worlds.{shown_is}
@@ -48,7 +48,7 @@ rounds_more : (s : Standing) (history : History) (side : ℕ) → rounds_of (sta
 rounds_more s [] side = omega arith
 rounds_more s (round ∷ history) side = omega (arith, rounds_more (after_round s round) history side, one_more s round side)
 
-with_round_more : (s : Standing) (ahead : Option Round) (side : ℕ) → rounds_of (with_round ahead s) side ≤ rounds_of s side + 1
+with_round_more : (s : Standing) (ahead : Option Round) (side : ℕ) → rounds_of (with_round_ahead ahead s) side ≤ rounds_of s side + 1
 with_round_more s None side = omega arith
 with_round_more s (Some round) side = one_more s round side
 

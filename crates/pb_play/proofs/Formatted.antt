@@ -38,7 +38,7 @@ use Rattle.pb_round_play.specs.declared.seat.Seat.{Seat}
 use Rattle.pb_play.specs.declared.world.World.{World as CodeWorld}
 use Rattle.pb_play.specs.Device.{ShowsProgress}
 use Rattle.pb_round_play.specs.Seats.{no_row, no_seat}
-use Rattle.pb_play.specs.Seats.{fresh_memory}
+use Rattle.pb_play.specs.Seats.{formatted_memory}
 use Rattle.pb_round_play.specs.Counts.{ShowsRounds}
 use Rattle.pb_play.specs.Shown.{IsRowOf, ShowsSeat, ShowsMemory}
 use Rattle.pb_play.specs.Worlds.{IsBegun}
@@ -273,7 +273,7 @@ formatted_lines head count =
 
 -- The world
 
-shows_fresh : (head : Header) → IsHeader head → ShowsMemory (fresh_memory head) (core.fresh_memory head)
+shows_fresh : (head : Header) → IsHeader head → ShowsMemory (formatted_memory head) (core.fresh_memory head)
 shows_fresh head valid = record {
   head = refl;
   valid = valid;
@@ -310,7 +310,7 @@ shows_fresh head valid = record {
     of_sides Queue = record { first = refl; second = refl }
 
 -- memory, device and calls of a world in which nothing happened since
-pub begins : (head : Header) (new : CodeWorld) → IsHeader head → new.head ≡ head → new.memory ≡ fresh_memory head → new.calls.going ≡ false
+pub begins : (head : Header) (new : CodeWorld) → IsHeader head → new.head ≡ head → new.memory ≡ formatted_memory head → new.calls.going ≡ false
     → new.device.base.items ≡ header_line_of head ∷ zeros 2047 → new.device.log.items ≡ [] → new.device.lines.items ≡ header_line_of head ∷ zeros 2047 → IsBegun head new
 begins head new valid head_is memory_is idle base log lines = record {
   world = record { memory = core.fresh_memory head; tale = record { base = formatted; log = [] }; progress = NoCall };

@@ -22,7 +22,7 @@ use Rattle.pb_layout.proofs.OneRecovery.{parts}
 use Rattle.pb_layout.proofs.SlotLemmas.{kept_from-empty, kept_from-full, slots_fall, empty_slot, newest_of_two-second, newest_of_two-newer_first, newest_of_two-newer_second}
 use Rattle.pb_layout.specs.Shape.{IsHeader}
 use Rattle.pb_core.specs.Client.{fresh_client, ask_word, row_word}
-use Rattle.pb_core.specs.Memory.{opened}
+use Rattle.pb_core.specs.Memory.{memory_at_opening}
 use Rattle.pb_round_play.specs.declared.rounds.Rounds.{Rounds}
 use Rattle.pb_round_play.specs.declared.seat.Row.{Row}
 use Rattle.pb_round_play.specs.declared.seat.Seat.{Seat}
@@ -32,7 +32,7 @@ use Rattle.pb_round_play.specs.Seats.{row_of_kept, fresh_seat}
 use Rattle.pb_play.specs.Found.{found_kept, found_row}
 use Rattle.pb_play.specs.Maps.{stored_ask}
 use Rattle.pb_round_play.specs.Seats.{seat_at}
-use Rattle.pb_play.specs.Seats.{fresh_memory}
+use Rattle.pb_play.specs.Seats.{formatted_memory}
 use Rattle.pb_round_play.specs.Counts.{ShowsRounds}
 use Rattle.pb_play.specs.Shown.{ShowsSeat, IsRowOf, ShowsMemory}
 use Rattle.pb_play.proofs.Fitting.{header_after}
@@ -134,7 +134,7 @@ seat_shown kept row is = record {
   odd = λ place few. kept_word (newest kept) row place is;
 }
 
-pub shows_found : (lines : List Line) (head : Header) (seats : List Seat) (rounds : Rounds) (start : Standing) (past : History) (answers : List Entry) → Represents lines (state_after start past) → header_for start ≡ head → rounds.first ≡ word_of lines 1 0 → rounds.second ≡ word_of lines 2 0 → length seats ≡ 16 → ((client : ℕ) → client < head.clients → seat_at seats client ≡ fresh_seat (found_row head.kind lines head rounds client)) → ShowsMemory (record (fresh_memory head) { seats = seats; owner = Closed; knowledge = Doubtful; rounds = rounds }) (opened start past answers)
+pub shows_found : (lines : List Line) (head : Header) (seats : List Seat) (rounds : Rounds) (start : Standing) (past : History) (answers : List Entry) → Represents lines (state_after start past) → header_for start ≡ head → rounds.first ≡ word_of lines 1 0 → rounds.second ≡ word_of lines 2 0 → length seats ≡ 16 → ((client : ℕ) → client < head.clients → seat_at seats client ≡ fresh_seat (found_row head.kind lines head rounds client)) → ShowsMemory (record (formatted_memory head) { seats = seats; owner = Closed; knowledge = Doubtful; rounds = rounds }) (memory_at_opening start past answers)
 shows_found lines head seats rounds start past answers stands header first second long found = record {
   head = header;
   valid = subst IsHeader heads region.valid;

@@ -23,8 +23,8 @@ use Rattle.pb_core.specs.DeviceParts.{IsWorld, IsUnsettled, opened_state}
 use Rattle.pb_core.specs.Memory as core
 use Rattle.pb_core.specs.Memory.{Memory, Owner, clients_of, shown}
 use Rattle.pb_core.specs.Possible.{IsOpening, IsReopening, MayAsk}
-use Rattle.pb_core.specs.WordMoves.{IsRunning, asks}
-use Rattle.pb_core.specs.World.{Progress, NoCall, InCall, World}
+use Rattle.pb_core.specs.WordMoves.{IsNotReopening, asks}
+use Rattle.pb_core.specs.World.{CallProgress, NoCall, InCall, World}
 use Rattle.pb_core.specs.WorldMoves.{failed, opens}
 use Rattle.pb_core.proofs.Devices.{steady_holds}
 use Rattle.pb_core.proofs.Worlds.{fits_in, closed_suits, shown_is}
@@ -49,7 +49,7 @@ not_true iff none p = false≢true (sym none ∙ iff.1 p)
 
 -- What is reopening
 
-closed_by : (owner : Owner) (progress : Progress) → IsOpening owner progress → owner ≡ core.Closed
+closed_by : (owner : Owner) (progress : CallProgress) → IsOpening owner progress → owner ≡ core.Closed
 closed_by core.Free progress opening = absurd opening
 closed_by (core.Held c side) progress opening = absurd opening
 closed_by core.Closed progress opening = refl
@@ -68,7 +68,7 @@ left_callable entry made (op ∷ left) o = tt
 pub reopening_callable : {old : CodeWorld} {w : World} → ShowsWorld old w → IsReopening w → old.calls.going ≡ true → IsCallable w.progress
 reopening_callable {old} {w} s opening going =
     let call : IsGoing w.progress = going_call s.device going in
-    subst IsCallable (sym call.at) (left_callable call.entry call.made call.left (subst (λ (q : Progress). IsOpening core.Closed q) call.at (subst (λ (o : Owner). IsOpening o w.progress) (is_closed w opening) opening)))
+    subst IsCallable (sym call.at) (left_callable call.entry call.made call.left (subst (λ (q : CallProgress). IsOpening core.Closed q) call.at (subst (λ (o : Owner). IsOpening o w.progress) (is_closed w opening) opening)))
 
 pub settles_region : {new : CodeWorld} {w : World} {answer : Stepped} → IsReopening w → (answer ≡ Went) × CallsNext w new → HasStepped w Reopen new answer
 settles_region {new} {w} opening called =
@@ -130,12 +130,12 @@ shows_open s = record {
 }
 
 -- all calls are made where it isn't reopening
-pub record IsDone (progress : Progress) : Type 0 where
+pub record IsDone (progress : CallProgress) : Type 0 where
   pub entry : List LogOp
   pub made : List LogOp
   pub at : progress ≡ InCall entry made []
 
-done_by : (progress : Progress) → ¬ IsOpening core.Closed progress → IsDone progress
+done_by : (progress : CallProgress) → ¬ IsOpening core.Closed progress → IsDone progress
 done_by NoCall done = absurd (done tt)
 done_by (InCall entry made []) done = record { entry = entry; made = made; at = refl }
 done_by (InCall entry made (op ∷ left)) done = absurd (done tt)
@@ -145,7 +145,7 @@ opens_closed {old} {w} {memory} {calls} s done closed memory_is calls_is =
     let all : IsDone w.progress = done_by w.progress (λ o. done (subst (λ (x : Owner). IsOpening x w.progress) (sym closed) o)) in
     record {
       middle = record { memory = record (w.memory) { owner = core.Free; engine = core.Resting }; tale = w.tale; progress = NoCall };
-      before = silently (λ runs. subst IsRunning closed runs) (opens (record { closed = closed; entry = all.entry; made = all.made; at = all.at; is = refl })) tt;
+      before = silently (λ runs. subst IsNotReopening closed runs) (opens (record { closed = closed; entry = all.entry; made = all.made; at = all.at; is = refl })) tt;
       shows = record {
         memory = subst (λ (q : CodeMemory). ShowsMemory q (record (w.memory) { owner = core.Free; engine = core.Resting })) (sym memory_is) (shows_open s.memory);
         device = subst (λ (q : Calls). ShowsDevice q old.device w.tale NoCall) (sym calls_is) (ended_device s.device);
@@ -156,7 +156,7 @@ opens_closed {old} {w} {memory} {calls} s done closed memory_is calls_is =
       running = tt;
     }
 
-pub stays_open : {old : CodeWorld} {w : World} → ShowsWorld old w → IsRunning w.memory.owner → IsOpened w old
+pub stays_open : {old : CodeWorld} {w : World} → ShowsWorld old w → IsNotReopening w.memory.owner → IsOpened w old
 stays_open {old} {w} s running = record { middle = w; before = at_once running refl; shows = s; start = refl; book = refl; running = running }
 
 -- Asking

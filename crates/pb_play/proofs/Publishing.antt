@@ -15,7 +15,7 @@ use Rattle.pb_events.specs.declared.event.Stepped.TheVariants.{Went, Done, Busy,
 use Rattle.pb_core.specs.Client as client
 use Rattle.pb_core.specs.Client.{Client, row_word, entry_by}
 use Rattle.pb_core.specs.Memory as core
-use Rattle.pb_core.specs.Memory.{Memory, Engine, with_at, clients_of, known, known_by, shown, with_round, round_of_turn}
+use Rattle.pb_core.specs.Memory.{Memory, Engine, with_at, clients_of, known_standing, known_by, shown, with_round_ahead, round_of_turn}
 use Rattle.pb_core.specs.MemoryParts.{IsMemory}
 use Rattle.pb_core.specs.WordMoves.{go_to, answered, with_row_word, next_row, with_published, filling, publishing_own, publishing_others, noting, giving_up}
 use Rattle.pb_core.proofs.Basics.{with_at-same, with_at-other}
@@ -38,7 +38,7 @@ use Rattle.pb_round_play.specs.Counts.{counted}
 use Rattle.pb_play.specs.Seats.{seat_of, row_with, fills, stores_row, is_answered, goes_to, notes, gives_up}
 use Rattle.pb_round_play.specs.Counts.{ShowsRounds}
 use Rattle.pb_play.specs.Shown.{ShowsSeat, rows_for, ShowsClients, IsRowOf, ShowsAhead, side_ahead, ShowsMemory}
-use Rattle.pb_play.specs.Steps.{FitsWords, StepsWord}
+use Rattle.pb_play.specs.Steps.{FitsWords, MakesWordStep}
 use Rattle.pb_play.proofs.Clients.{clients_few, ahead_at, shows_client, shows_stage, word_step}
 use Rattle.pb_play.proofs.Scanning.{holds_turn, works_at}
 
@@ -142,16 +142,16 @@ written_row rows r c word w row place same =
 
 -- The next row
 
--- what is known where a round is recorded
-pub recorded_known : {m : Memory} {c side : ℕ} (count : ℕ) → IsMemory m → m.owner ≡ core.Held c side → m.work ≡ core.Filling count → known m ≡ with_round m.ahead (shown m)
+-- what is known_standing where a round is recorded
+pub recorded_known : {m : Memory} {c side : ℕ} (count : ℕ) → IsMemory m → m.owner ≡ core.Held c side → m.work ≡ core.Filling count → known_standing m ≡ with_round_ahead m.ahead (shown m)
 recorded_known {m} count sound holds at =
     ap (λ (e : Engine). known_by e m.ahead (shown m)) (work_suits (core.Filling count) sound holds at).0
 
-pub row_ahead : (n : ℕ) (s : Standing) (ahead : Option Round) (seats : ℕ → Seat) (d : ℕ) → IsSome ahead → ShowsAhead n s ahead seats → d < n → IsRowOf (newest_of (with_round ahead s) d) (seats d).ahead
+pub row_ahead : (n : ℕ) (s : Standing) (ahead : Option Round) (seats : ℕ → Seat) (d : ℕ) → IsSome ahead → ShowsAhead n s ahead seats → d < n → IsRowOf (newest_of (with_round_ahead ahead s) d) (seats d).ahead
 row_ahead n s None seats d some shows within = absurd (false≢true some)
 row_ahead n s (Some round) seats d some shows within = shows d within
 
-known_row : {p : CodeMemory} {m : Memory} {c side : ℕ} (count d : ℕ) → ShowsMemory p m → IsMemory m → m.owner ≡ core.Held c side → m.work ≡ core.Filling count → d < clients_of m → IsRowOf (newest_of (known m) d) (seat_of p d).ahead
+known_row : {p : CodeMemory} {m : Memory} {c side : ℕ} (count d : ℕ) → ShowsMemory p m → IsMemory m → m.owner ≡ core.Held c side → m.work ≡ core.Filling count → d < clients_of m → IsRowOf (newest_of (known_standing m) d) (seat_of p d).ahead
 known_row {p} {m} count d s sound holds at within =
     subst (λ (t : Standing). IsRowOf (newest_of t d) (seat_of p d).ahead) (sym (recorded_known count sound holds at))
     (row_ahead (clients_of m) (shown m) m.ahead (seat_of p) d (work_suits (core.Filling count) sound holds at).1 s.next within)
@@ -197,7 +197,7 @@ row_shown {p} {m} d word parity kept s sound within few is parity_is small = go 
         )
     go (suc (suc more)) is low = absurd (omega (arith, low))
 
-pub stores_rows : {old new : CodeMemory} {answer : Stepped} (c side count : ℕ) → old.owner ≡ Held c side → old.work ≡ Filling count → count / 4 < old.head.clients → new ≡ stores_row (count / 4) (count % 4) old → answer ≡ Went → StepsWord old c new answer
+pub stores_rows : {old new : CodeMemory} {answer : Stepped} (c side count : ℕ) → old.owner ≡ Held c side → old.work ≡ Filling count → count / 4 < old.head.clients → new ≡ stores_row (count / 4) (count % 4) old → answer ≡ Went → MakesWordStep old c new answer
 stores_rows {old} c side count owned at inside after says m s sound fits running within =
     let d : ℕ = count / 4 in
     let word : ℕ = count % 4 in
@@ -205,14 +205,14 @@ stores_rows {old} c side count owned at inside after says m s sound fits running
     let holds = holds_turn c side s owned in
     let works = works_at s at in
     let counts : count ≡ 4 * d + word = omega arith in
-    let shows = row_shown d word (round_of_turn old.turn % 2) (newest_of (known m) d) s sound there (omega arith) (known_row count d s sound holds works there) refl (omega arith) in
+    let shows = row_shown d word (round_of_turn old.turn % 2) (newest_of (known_standing m) d) s sound there (omega arith) (known_row count d s sound holds works there) refl (omega arith) in
     let room : d < length old.seats = omega (arith, s.places, there, clients_few s) in
     word_step c (stores_row d word old)
     (record {
       head = s.head;
       valid = s.valid;
       places = length-set old.seats d (fills old.turn word (seat_of old d)) ∙ s.places;
-      clients = clients_rows old.seats d (fills old.turn word (seat_of old d)) room s.clients (λ e row place apart. other_client m.rows (next_row m) d word (row_word (newest_of (known m) d) word) e row place apart) shows.0;
+      clients = clients_rows old.seats d (fills old.turn word (seat_of old d)) room s.clients (λ e row place apart. other_client m.rows (next_row m) d word (row_word (newest_of (known_standing m) d) word) e row place apart) shows.0;
       next = ahead_at (clients_of m) (shown m) m.ahead old.seats d (fills old.turn word (seat_of old d)) room shows.1 s.next;
       turn = s.turn;
       noted = s.noted;
@@ -272,7 +272,7 @@ shows_rounds s round rounds legal sides fits shows = go round.side refl
 shows_published : {p : CodeMemory} {m : Memory} (round : Round) → ShowsMemory p m → IsMemory m → FitsWords m → m.ahead ≡ Some round → ShowsMemory (code.with_published p) (with_published round m)
 shows_published {p} {m} round s sound fits ahead =
     let legal : IsLegalRound (shown m) round = subst (λ (a : Option Round). IfSome a (IsLegalRound (shown m))) ahead sound.history.next in
-    let few : (side : ℕ) → rounds_of (after_round (shown m) round) side ≤ last_count = λ side. subst (λ (a : Option Round). rounds_of (with_round a (shown m)) side ≤ last_count) ahead (fits.rounds side) in
+    let few : (side : ℕ) → rounds_of (after_round (shown m) round) side ≤ last_count = λ side. subst (λ (a : Option Round). rounds_of (with_round_ahead a (shown m)) side ≤ last_count) ahead (fits.rounds side) in
     record {
       head = s.head;
       valid = s.valid;
@@ -302,14 +302,14 @@ ahead_some (Some round) some = (round, refl)
 all_filled : {m : Memory} (count : ℕ) → IsMemory m → m.work ≡ core.Filling count → clients_of m ≤ count / 4 → m.work ≡ core.Filling (4 * clients_of m)
 all_filled {m} count sound works full = works ∙ ap core.Filling (omega (arith, full, (the_filled count sound works).few))
 
-pub publishes_own : {old new : CodeMemory} {answer : Stepped} (c side count : ℕ) → old.owner ≡ Held c side → old.work ≡ Filling count → old.head.clients ≤ count / 4 → (seat_of old c).ahead.number ≡ (seat_of old c).ask.number → new ≡ is_answered c (code.with_published old) → answer ≡ Done (seat_of old c).ask (seat_of old c).ahead.reply → StepsWord old c new answer
+pub publishes_own : {old new : CodeMemory} {answer : Stepped} (c side count : ℕ) → old.owner ≡ Held c side → old.work ≡ Filling count → old.head.clients ≤ count / 4 → (seat_of old c).ahead.number ≡ (seat_of old c).ask.number → new ≡ is_answered c (code.with_published old) → answer ≡ Done (seat_of old c).ask (seat_of old c).ahead.reply → MakesWordStep old c new answer
 publishes_own {old} c side count owned at full same after says m s sound fits running within =
     let holds = holds_turn c side s owned in
     let works = works_at s at in
     let some = ahead_some m.ahead (work_suits (core.Filling count) sound holds works).1 in
     let row = known_row count c s sound holds works within in
     let before = s.clients c within in
-    let reply : Reply = (newest_of (known m) c).reply in
+    let reply : Reply = (newest_of (known_standing m) c).reply in
     word_step c (is_answered c (code.with_published old))
     (shows_client c (record (seat_of old c) { stage = Idle; last = (seat_of old c).ask.number }) (answered reply (suc (length m.published)) (m.book c)) (m.answers ++ entry_by (m.book c).ask reply ∷ [])
     (shows_published some.0 s sound fits some.1) within
@@ -338,7 +338,7 @@ publishes_own {old} c side count owned at full same after says m s sound fits ru
     })
     after
 
-pub publishes_others : {old new : CodeMemory} {answer : Stepped} (c side count : ℕ) → old.owner ≡ Held c side → old.work ≡ Filling count → old.head.clients ≤ count / 4 → (seat_of old c).ahead.number ≢ (seat_of old c).ask.number → new ≡ goes_to c Looking (code.with_published old) → answer ≡ Busy (seat_of old c).ask (old.turn - 1) (counted old.turn) → StepsWord old c new answer
+pub publishes_others : {old new : CodeMemory} {answer : Stepped} (c side count : ℕ) → old.owner ≡ Held c side → old.work ≡ Filling count → old.head.clients ≤ count / 4 → (seat_of old c).ahead.number ≢ (seat_of old c).ask.number → new ≡ goes_to c Looking (code.with_published old) → answer ≡ Busy (seat_of old c).ask (old.turn - 1) (counted old.turn) → MakesWordStep old c new answer
 publishes_others {old} c side count owned at full other after says m s sound fits running within =
     let holds = holds_turn c side s owned in
     let works = works_at s at in
@@ -365,7 +365,7 @@ publishes_others {old} c side count owned at full other after says m s sound fit
 
 -- Giving up
 
-pub notes_faults : {old new : CodeMemory} {answer : Stepped} (c side from to : ℕ) → old.owner ≡ Held c side → old.work ≡ Noting from to → new ≡ notes from to old → answer ≡ Went → StepsWord old c new answer
+pub notes_faults : {old new : CodeMemory} {answer : Stepped} (c side from to : ℕ) → old.owner ≡ Held c side → old.work ≡ Noting from to → new ≡ notes from to old → answer ≡ Went → MakesWordStep old c new answer
 notes_faults {old} c side from to owned at after says m s sound fits running within =
     word_step c (notes from to old)
     (record {
@@ -388,7 +388,7 @@ notes_faults {old} c side from to owned at after says m s sound fits running wit
     (record { running = running; there = within; move = noting (record { side = side; holds = holds_turn c side s owned; from = from; to = to; at = works_at s at; is = refl; says = says }) })
     after
 
-pub leaves_turn : {old new : CodeMemory} {answer : Stepped} (c side from to : ℕ) → old.owner ≡ Held c side → old.work ≡ GivingUp from to → new ≡ gives_up c old → answer ≡ Fault (seat_of old c).ask from to → StepsWord old c new answer
+pub leaves_turn : {old new : CodeMemory} {answer : Stepped} (c side from to : ℕ) → old.owner ≡ Held c side → old.work ≡ GivingUp from to → new ≡ gives_up c old → answer ≡ Fault (seat_of old c).ask from to → MakesWordStep old c new answer
 leaves_turn {old} c side from to owned at after says m s sound fits running within =
     let a = shows_stage c Looking (go_to client.Looking (m.book c)) s within refl refl refl in
     word_step c (gives_up c old)

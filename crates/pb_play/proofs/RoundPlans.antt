@@ -21,8 +21,8 @@ use Rattle.pb_object.specs.Standing.{Standing, rounds_of, side_count}
 use Rattle.pb_layout.specs.declared.header.Header.{Header}
 use Rattle.pb_layout.specs.Cell.{cell_line_of}
 use Rattle.pb_layout.specs.Header.{record_length, first_record_line}
-use Rattle.pb_layout.specs.NextRecord.{HasEntry, IsNextOf, IsNextRecord, next_position, HasCells}
-use Rattle.pb_layout.specs.PutCell.{HasCell, HaveCells}
+use Rattle.pb_layout.specs.NextRecord.{HasEntryInFront, IsNextOf, IsNextRecord, next_position, HasCells}
+use Rattle.pb_layout.specs.PutCell.{HasCell, HaveCells, put_ops}
 use Rattle.pb_layout.specs.Record.{slot_line_at}
 use Rattle.pb_layout.specs.Recovered.{Represents}
 use Rattle.pb_layout.specs.Region.{record_place, cell_place}
@@ -38,9 +38,9 @@ use Rattle.pb_layout_laws.proofs.Geometry.{cell_below, record_after_cells}
 use Rattle.pb_layout_laws.proofs.PutCells.{cells_of_a_round}
 use Rattle.pb_layout_laws.proofs.Rounds.{next_side, after_entries-kind_of}
 use Rattle.pb_core.specs.World as core
-use Rattle.pb_core.specs.World.{Put, puts_at, puts_between, WritesLine, AreFree, IsRoundPlan}
+use Rattle.pb_core.specs.World.{Put, puts_at, puts_between, WritesLine, AreFreePositions, IsRoundPlan}
 use Rattle.pb_core.specs.Play.{ListsRising, IsPlayedPlan}
-use Rattle.pb_engine.specs.Operations.{put_ops, puts_from, cell_ops}
+use Rattle.pb_engine.specs.Operations.{puts_from, cell_ops}
 use Rattle.pb_queue.proofs.CellExits.{cells_there}
 use Rattle.pb_queue.proofs.PutCells.{puts_from-none, puts_from-more}
 use Rattle.pb_round_play.specs.Rounds.{StepsQueue}
@@ -51,7 +51,7 @@ same_puts : (head : Header) (from : ℕ) (items : List ℕ) → core.cell_ops he
 same_puts head from [] = sym (puts_from-none head from)
 same_puts head from (item ∷ items) = ap (λ (l : List LogOp). put_ops head from item ++ l) (same_puts head (suc from) items) ∙ sym (puts_from-more head from item items)
 
-free_puts : (size : ℕ) (queue : Waiting) (from : ℕ) (items : List ℕ) → tail_of queue ≤ from → from + length items ≤ queue.taken + size → AreFree (Waits size queue) (puts_at from items)
+free_puts : (size : ℕ) (queue : Waiting) (from : ℕ) (items : List ℕ) → tail_of queue ≤ from → from + length items ≤ queue.taken + size → AreFreePositions (Waits size queue) (puts_at from items)
 free_puts size queue from [] after near = tt
 free_puts size queue from (item ∷ items) after near = ((after, omega (arith, near)), free_puts size queue (suc from) items (omega (arith, after)) (omega (arith, near)))
 
@@ -60,7 +60,7 @@ record HasPuts (head : Header) (before after : State) : Type 0 where
   puts : List Put
   its_own : puts ≡ puts_between before after
   are : core.cell_ops head puts ≡ cell_ops head (next_position before) after
-  free : AreFree before puts
+  free : AreFreePositions before puts
 
 no_puts : (head : Header) (before after : State) → puts_between before after ≡ [] → cell_ops head (next_position before) after ≡ [] → HasPuts head before after
 no_puts head before after no_items none = record { puts = []; its_own = sym no_items; are = sym none; free = tt }
@@ -125,7 +125,7 @@ next_along f g s round lines same here next = record {
   legal = next.legal;
   long = next.long;
   carries = next.carries;
-  entries = subst (λ (ls : List Line). All (HasEntry ls lines) round.entries) own next.entries;
+  entries = subst (λ (ls : List Line). All (HasEntryInFront ls lines) round.entries) own next.entries;
   others = λ client slot inside below others. next.others client slot inside below others ∙ ap (λ (ls : List Line). slot_line_at ls client slot) own;
   state = subst (λ (ls : List Line). LinesRepresent ls (after_round s round).state) (object_parts-same s.kind (header_for s) (with_record f round.side lines) (with_record g round.side lines) exchanged) next.state;
 }

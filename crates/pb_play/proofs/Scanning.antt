@@ -9,7 +9,7 @@ use Rattle.pb_object.specs.Standing.{Standing, newest_of}
 use Rattle.pb_events.specs.declared.event.Stepped.{Stepped}
 use Rattle.pb_events.specs.declared.event.Stepped.TheVariants.{Went}
 use Rattle.pb_core.specs.Memory as core
-use Rattle.pb_core.specs.Memory.{Memory, clients_of, shown, side_of, round_of_turn}
+use Rattle.pb_core.specs.Memory.{Memory, clients_of, shown, side_of_operation, round_of_turn}
 use Rattle.pb_core.specs.MemoryParts.{IsMemory, AreSeen}
 use Rattle.pb_core.specs.WordMoves.{due_number, scanned, passing_over, meeting, scanning_code, scanning_first, scanning_second, scanning_own, scanning_other}
 use Rattle.pb_core.proofs.Scans.{the_scan, known_shown}
@@ -21,7 +21,7 @@ use Rattle.pb_play.specs.declared.work.Part.TheVariants.{AtNumber, AtCode, AtFir
 use Rattle.pb_play.specs.declared.work.Work.{Work}
 use Rattle.pb_play.specs.declared.work.Work.TheVariants.{Scanning}
 use Rattle.pb_play.specs.Maps.{owner_of, work_of}
-use Rattle.pb_play.specs.Seats.{seat_of, at_work, sees}
+use Rattle.pb_play.specs.Seats.{seat_of, at_work, with_ask_seen}
 use Rattle.pb_play.specs.Shown.{ShowsMemory}
 use Rattle.pb_play.specs.Steps.{StepsHeld}
 use Rattle.pb_play.proofs.Clients.{clients_few, word_step}
@@ -158,7 +158,7 @@ scanned_is : {old : CodeMemory} {m : Memory} (d number : ℕ) (op : Op) → Show
 scanned_is d number op s inside last =
     ap (λ (c : ℕ). record { client = d; number = number; op = record { code = op.code; a = op.a; b = op.b; c = c } }) ((s.clients d inside).stored 4 (omega arith) ∙ sym last)
 
-pub scans_other : {old new : CodeMemory} {answer : Stepped} (d number : ℕ) (op : Op) (side : ℕ) → d < old.head.clients → old.work ≡ Scanning d (AtThird number op.code op.a op.b) → op.c ≡ (seat_of old d).op.c → side_of op ≢ side → new ≡ at_work (Scanning (d + 1) AtNumber) old → answer ≡ Went → StepsHeld old side new answer
+pub scans_other : {old new : CodeMemory} {answer : Stepped} (d number : ℕ) (op : Op) (side : ℕ) → d < old.head.clients → old.work ≡ Scanning d (AtThird number op.code op.a op.b) → op.c ≡ (seat_of old d).op.c → side_of_operation op ≢ side → new ≡ at_work (Scanning (d + 1) AtNumber) old → answer ≡ Went → StepsHeld old side new answer
 scans_other {old} d number op side there at last other after says c owned m s sound fits running within =
     word_step c (at_work (Scanning (d + 1) AtNumber) old)
     (shows_work (Scanning (d + 1) AtNumber) (core.Scanning (suc d) core.AtNumber (seen_by old)) s
@@ -176,7 +176,7 @@ scans_other {old} d number op side there at last other after says c owned m s so
         a = op.a;
         b = op.b;
         at = works_at s at;
-        other = λ same. other (ap (λ (ask : Ask). side_of ask.op) (sym (scanned_is d number op s (within_head s there) last)) ∙ same);
+        other = λ same. other (ap (λ (ask : Ask). side_of_operation ask.op) (sym (scanned_is d number op s (within_head s there) last)) ∙ same);
         is = refl;
         says = says;
       });
@@ -194,7 +194,7 @@ met_few {old} {m} {c} {side} d part s sound inside holds at =
     let scan = the_scan d part (seen_by old) sound holds at in
     omega (arith, clients_few s, inside, seen_few (shown m) side m.requests 0 d (seen_by old) (omega arith) scan.seen_are, length-take-le old.met old.seen (omega (arith, s.met, s.room)))
 
-pub scans_own : {old new : CodeMemory} {answer : Stepped} (d number : ℕ) (op : Op) (side : ℕ) → d < old.head.clients → old.work ≡ Scanning d (AtThird number op.code op.a op.b) → op.c ≡ (seat_of old d).op.c → side_of op ≡ side → new ≡ sees (record { client = d; number = number; op = op }) old → answer ≡ Went → StepsHeld old side new answer
+pub scans_own : {old new : CodeMemory} {answer : Stepped} (d number : ℕ) (op : Op) (side : ℕ) → d < old.head.clients → old.work ≡ Scanning d (AtThird number op.code op.a op.b) → op.c ≡ (seat_of old d).op.c → side_of_operation op ≡ side → new ≡ with_ask_seen (record { client = d; number = number; op = op }) old → answer ≡ Went → StepsHeld old side new answer
 scans_own {old} d number op side there at last same after says c owned m s sound fits running within =
     let inside = within_head s there in
     let holds = holds_turn c side s owned in
@@ -233,7 +233,7 @@ scans_own {old} d number op side there at last same after says c owned m s sound
         a = op.a;
         b = op.b;
         at = works_at s at;
-        same = ap (λ (a : Ask). side_of a.op) (scanned_is d number op s inside last) ∙ same;
+        same = ap (λ (a : Ask). side_of_operation a.op) (scanned_is d number op s inside last) ∙ same;
         is = refl;
         says = says;
       });

@@ -12,10 +12,10 @@ use Rattle.pb_layout.specs.RegionOps.{settle_ops, settle_to}
 use Rattle.pb_layout.specs.Represents.{header_for}
 use Rattle.pb_core.specs.DeviceParts.{IsWorld}
 use Rattle.pb_core.specs.Memory as core
-use Rattle.pb_core.specs.Memory.{Memory, Engine, Work, clients_of, known, known_by, shown, with_round}
+use Rattle.pb_core.specs.Memory.{Memory, Engine, Work, clients_of, known_standing, known_by, shown, with_round_ahead}
 use Rattle.pb_core.specs.MemoryParts.{IsMemory}
 use Rattle.pb_core.specs.Possible.{IsCallDue}
-use Rattle.pb_core.specs.World.{Progress, NoCall, InCall, World}
+use Rattle.pb_core.specs.World.{CallProgress, NoCall, InCall, World}
 use Rattle.pb_core.specs.WorldMoves.{settling_plan, begins_settling, ends_calls, ends_settling_none, ends_settling_round}
 use Rattle.pb_core.proofs.Turns.{work_suits}
 use Rattle.pb_core.proofs.Worlds.{fits_in}
@@ -25,66 +25,66 @@ use Rattle.pb_play.specs.declared.memory.Memory.{Memory as CodeMemory}
 use Rattle.pb_round_play.specs.declared.rounds.Rounds.{Rounds}
 use Rattle.pb_play.specs.declared.world.World.{World as CodeWorld}
 use Rattle.pb_play.specs.Device.{ShowsProgress, ShowsDevice}
-use Rattle.pb_core.specs.Play.{IsCallable, IsReady, IsCalling, at_once, silently}
+use Rattle.pb_core.specs.Play.{IsCallable, IsReadyForStep, IsCalling, at_once, silently}
 use Rattle.pb_play.specs.Seats as code
 use Rattle.pb_round_play.specs.Counts.{ShowsRounds}
 use Rattle.pb_play.specs.Shown.{side_ahead, ShowsMemory}
 use Rattle.pb_play.specs.Steps.{FitsWords}
-use Rattle.pb_play.specs.Worlds.{ShowsWorld, IsDue, GoesOn}
+use Rattle.pb_play.specs.Worlds.{ShowsWorld, IsDue, GoesOnUnseen}
 use Rattle.pb_play.proofs.Fitting.{header_after, world_fits}
 use Rattle.pb_play.proofs.Publishing.{shows_rounds}
 
 -- Where the calls are
 
-none_going : (plan : List LogOp) (reached : ℕ) (progress : Progress) → ShowsProgress false plan reached progress → progress ≡ NoCall
+none_going : (plan : List LogOp) (reached : ℕ) (progress : CallProgress) → ShowsProgress false plan reached progress → progress ≡ NoCall
 none_going plan reached NoCall s = refl
 none_going plan reached (InCall entry made left) s = absurd s
 
-pub no_call : {calls : Calls} {device : Device} {tale : Tale} {progress : Progress} → ShowsDevice calls device tale progress → calls.going ≡ false → progress ≡ NoCall
+pub no_call : {calls : Calls} {device : Device} {tale : Tale} {progress : CallProgress} → ShowsDevice calls device tale progress → calls.going ≡ false → progress ≡ NoCall
 no_call {calls} {progress = progress} s going =
     none_going calls.plan.items calls.made progress (subst (λ (g : Bool). ShowsProgress g calls.plan.items calls.made progress) going s.progress_is)
 
 -- all calls are made
-pub record HasEnded (progress : Progress) : Type 0 where
+pub record HasEnded (progress : CallProgress) : Type 0 where
   pub entry : List LogOp
   pub made : List LogOp
   pub at : progress ≡ InCall entry made []
 
-all_made : (plan : List LogOp) (reached : ℕ) (progress : Progress) → ShowsProgress true plan reached progress → length plan ≤ reached → HasEnded progress
+all_made : (plan : List LogOp) (reached : ℕ) (progress : CallProgress) → ShowsProgress true plan reached progress → length plan ≤ reached → HasEnded progress
 all_made plan reached NoCall s past = absurd s
 all_made plan reached (InCall entry made []) s past = record { entry = entry; made = made; at = refl }
 all_made plan reached (InCall entry made (op ∷ left)) s past = absurd (omega (arith, past, s.count, ap length s.all, length-append made (op ∷ left)))
 
-pub has_ended : {calls : Calls} {device : Device} {tale : Tale} {progress : Progress} → ShowsDevice calls device tale progress → calls.going ≡ true → length calls.plan.items ≤ calls.made → HasEnded progress
+pub has_ended : {calls : Calls} {device : Device} {tale : Tale} {progress : CallProgress} → ShowsDevice calls device tale progress → calls.going ≡ true → length calls.plan.items ≤ calls.made → HasEnded progress
 has_ended {calls} {progress = progress} s going past =
     all_made calls.plan.items calls.made progress (subst (λ (g : Bool). ShowsProgress g calls.plan.items calls.made progress) going s.progress_is) past
 
 -- calls are being made
-pub record IsGoing (progress : Progress) : Type 0 where
+pub record IsGoing (progress : CallProgress) : Type 0 where
   pub entry : List LogOp
   pub made : List LogOp
   pub left : List LogOp
   pub at : progress ≡ InCall entry made left
 
-going_at : (plan : List LogOp) (reached : ℕ) (progress : Progress) → ShowsProgress true plan reached progress → IsGoing progress
+going_at : (plan : List LogOp) (reached : ℕ) (progress : CallProgress) → ShowsProgress true plan reached progress → IsGoing progress
 going_at plan reached NoCall s = absurd s
 going_at plan reached (InCall entry made left) s = record { entry = entry; made = made; left = left; at = refl }
 
-pub going_call : {calls : Calls} {device : Device} {tale : Tale} {progress : Progress} → ShowsDevice calls device tale progress → calls.going ≡ true → IsGoing progress
+pub going_call : {calls : Calls} {device : Device} {tale : Tale} {progress : CallProgress} → ShowsDevice calls device tale progress → calls.going ≡ true → IsGoing progress
 going_call {calls} {progress = progress} s going =
     going_at calls.plan.items calls.made progress (subst (λ (g : Bool). ShowsProgress g calls.plan.items calls.made progress) going s.progress_is)
 
-some_left : (plan : List LogOp) (reached : ℕ) (progress : Progress) → ShowsProgress true plan reached progress → reached < length plan → IsCallable progress
+some_left : (plan : List LogOp) (reached : ℕ) (progress : CallProgress) → ShowsProgress true plan reached progress → reached < length plan → IsCallable progress
 some_left plan reached NoCall s inside = absurd s
 some_left plan reached (InCall entry made []) s inside = absurd (omega (arith, inside, s.count, ap length s.all, length-append made []))
 some_left plan reached (InCall entry made (op ∷ left)) s inside = tt
 
-pub is_callable : {calls : Calls} {device : Device} {tale : Tale} {progress : Progress} → ShowsDevice calls device tale progress → calls.going ≡ true → calls.made < length calls.plan.items → IsCallable progress
+pub is_callable : {calls : Calls} {device : Device} {tale : Tale} {progress : CallProgress} → ShowsDevice calls device tale progress → calls.going ≡ true → calls.made < length calls.plan.items → IsCallable progress
 is_callable {calls} {progress = progress} s going inside =
     some_left calls.plan.items calls.made progress (subst (λ (g : Bool). ShowsProgress g calls.plan.items calls.made progress) going s.progress_is) inside
 
 -- the same device where no calls are being made
-pub ended_device : {calls : Calls} {device : Device} {tale : Tale} {progress : Progress} → ShowsDevice calls device tale progress → ShowsDevice (record calls { going = false }) device tale NoCall
+pub ended_device : {calls : Calls} {device : Device} {tale : Tale} {progress : CallProgress} → ShowsDevice calls device tale progress → ShowsDevice (record calls { going = false }) device tale NoCall
 ended_device s = record { progress_is = tt; base = s.base; log = s.log; lines = s.lines }
 
 pub not_left : {b : Bool} {made n : ℕ} → IsTrue b ↔ (made < n) → b ≡ false → n ≤ made
@@ -96,10 +96,10 @@ not_left {b} {made} {n} is none = go (cases_lt made n)
 
 -- Nothing happens
 
-ready_by : (work : Work) (clients : ℕ) (progress : Progress) {now : Work} → now ≡ work → IsReady work clients progress → IsReady now clients progress
-ready_by work clients progress at ready = subst (λ (x : Work). IsReady x clients progress) (sym at) ready
+ready_by : (work : Work) (clients : ℕ) (progress : CallProgress) {now : Work} → now ≡ work → IsReadyForStep work clients progress → IsReadyForStep now clients progress
+ready_by work clients progress at ready = subst (λ (x : Work). IsReadyForStep x clients progress) (sym at) ready
 
-scan_not_due : (d clients : ℕ) (part : core.Part) (seen : List Ask) (progress : Progress) → d < clients → IsCallDue (core.Scanning d part seen) progress clients → ⊥
+scan_not_due : (d clients : ℕ) (part : core.Part) (seen : List Ask) (progress : CallProgress) → d < clients → IsCallDue (core.Scanning d part seen) progress clients → ⊥
 scan_not_due d clients core.AtNumber seen NoCall within due = omega (arith, within, due)
 scan_not_due d clients (core.AtCode number) seen NoCall within due = due
 scan_not_due d clients (core.AtFirst number code) seen NoCall within due = due
@@ -107,7 +107,7 @@ scan_not_due d clients (core.AtSecond number code a) seen NoCall within due = du
 scan_not_due d clients (core.AtThird number code a b) seen NoCall within due = due
 scan_not_due d clients part seen (InCall entry made left) within due = due
 
-due_ready : (w : World) (work : Work) → w.memory.work ≡ work → IsReady work (clients_of w.memory) w.progress → IsCallDue work w.progress (clients_of w.memory) → IsDue w
+due_ready : (w : World) (work : Work) → w.memory.work ≡ work → IsReadyForStep work (clients_of w.memory) w.progress → IsCallDue work w.progress (clients_of w.memory) → IsDue w
 due_ready w core.NoWork at ready due = absurd due
 due_ready w core.Settling at ready due = record { calling = subst IsCalling (sym at) tt; callable = ready }
 due_ready w (core.Scanning d part seen) at ready due = absurd (scan_not_due d (clients_of w.memory) part seen w.progress ready due)
@@ -116,7 +116,7 @@ due_ready w (core.Filling count) at ready due = absurd due
 due_ready w (core.Noting from to) at ready due = absurd due
 due_ready w (core.GivingUp from to) at ready due = absurd due
 
-pub goes_nowhere : {old : CodeWorld} {w : World} (work : Work) → ShowsWorld old w → w.memory.work ≡ work → IsReady work (clients_of w.memory) w.progress → GoesOn w old
+pub goes_nowhere : {old : CodeWorld} {w : World} (work : Work) → ShowsWorld old w → w.memory.work ≡ work → IsReadyForStep work (clients_of w.memory) w.progress → GoesOnUnseen w old
 goes_nowhere {old} {w} work s at ready = record {
   middle = w;
   before = at_once (ready_by work (clients_of w.memory) w.progress at ready) refl;
@@ -130,15 +130,15 @@ goes_nowhere {old} {w} work s at ready = record {
 -- Settling begins
 
 -- the counts of rounds with the round ahead
-pub ahead_rounds : {p : CodeMemory} {m : Memory} → ShowsMemory p m → IsMemory m → FitsWords m → ShowsRounds (with_round m.ahead (shown m)) (code.with_ahead p.ahead p.rounds)
+pub ahead_rounds : {p : CodeMemory} {m : Memory} → ShowsMemory p m → IsMemory m → FitsWords m → ShowsRounds (with_round_ahead m.ahead (shown m)) (code.with_ahead p.ahead p.rounds)
 ahead_rounds {p} {m} s sound fits =
-    subst (λ (a : Option ℕ). ShowsRounds (with_round m.ahead (shown m)) (code.with_ahead a p.rounds)) s.ahead (go m.ahead sound.history.next fits.rounds)
+    subst (λ (a : Option ℕ). ShowsRounds (with_round_ahead m.ahead (shown m)) (code.with_ahead a p.rounds)) s.ahead (go m.ahead sound.history.next fits.rounds)
   where
-    go : (a : Option Round) → IfSome a (IsLegalRound (shown m)) → ((side : ℕ) → rounds_of (with_round a (shown m)) side ≤ last_count) → ShowsRounds (with_round a (shown m)) (code.with_ahead (side_ahead a) p.rounds)
+    go : (a : Option Round) → IfSome a (IsLegalRound (shown m)) → ((side : ℕ) → rounds_of (with_round_ahead a (shown m)) side ≤ last_count) → ShowsRounds (with_round_ahead a (shown m)) (code.with_ahead (side_ahead a) p.rounds)
     go None legal few = s.rounds
     go (Some round) legal few = shows_rounds (shown m) round p.rounds legal fits.sides few s.rounds
 
-pub doubtful_known : {m : Memory} {c side : ℕ} → IsMemory m → m.owner ≡ core.Held c side → m.work ≡ core.Settling → known m ≡ shown m
+pub doubtful_known : {m : Memory} {c side : ℕ} → IsMemory m → m.owner ≡ core.Held c side → m.work ≡ core.Settling → known_standing m ≡ shown m
 doubtful_known {m} sound holds at = ap (λ (e : Engine). known_by e m.ahead (shown m)) (work_suits core.Settling sound holds at)
 
 pub plan_is : {old : CodeWorld} {w : World} (c side : ℕ) → IsWorld w → ShowsWorld old w → w.memory.owner ≡ core.Held c side → w.memory.work ≡ core.Settling → settling_plan w.memory ≡ settle_ops old.head (code.with_ahead old.memory.ahead old.memory.rounds).first (code.with_ahead old.memory.ahead old.memory.rounds).second
@@ -146,15 +146,15 @@ plan_is {old} {w} c side is s holds at =
     let m = w.memory in
     let rounds = ahead_rounds s.memory is.memory_is (world_fits is) in
     let head = header_after m.start (m.past ++ m.published) ∙ s.head in
-    ap (λ (t : Standing). settle_to (header_for t) (with_round m.ahead t)) (doubtful_known is.memory_is holds at)
+    ap (λ (t : Standing). settle_to (header_for t) (with_round_ahead m.ahead t)) (doubtful_known is.memory_is holds at)
     ∙ (λ i. settle_ops (head i) (rounds.first i) (rounds.second i))
 
 -- where settling didn't begin yet its first call isn't the next step
-not_begun : (w : World) → w.memory.work ≡ core.Settling → w.progress ≡ NoCall → IsReady w.memory.work (clients_of w.memory) w.progress → ⊥
+not_begun : (w : World) → w.memory.work ≡ core.Settling → w.progress ≡ NoCall → IsReadyForStep w.memory.work (clients_of w.memory) w.progress → ⊥
 not_begun w at none ready =
-    subst IsCallable none (subst (λ (x : Work). IsReady x (clients_of w.memory) w.progress) at ready)
+    subst IsCallable none (subst (λ (x : Work). IsReadyForStep x (clients_of w.memory) w.progress) at ready)
 
-pub begins : {old : CodeWorld} {w : World} {calls : Calls} {rounds : Rounds} (c side : ℕ) → IsWorld w → ShowsWorld old w → w.memory.owner ≡ core.Held c side → w.memory.work ≡ core.Settling → old.calls.going ≡ false → rounds ≡ code.with_ahead old.memory.ahead old.memory.rounds → calls.going ≡ true → calls.made ≡ 0 → calls.plan.items ≡ settle_ops old.head rounds.first rounds.second → GoesOn w (record old { calls = calls })
+pub begins : {old : CodeWorld} {w : World} {calls : Calls} {rounds : Rounds} (c side : ℕ) → IsWorld w → ShowsWorld old w → w.memory.owner ≡ core.Held c side → w.memory.work ≡ core.Settling → old.calls.going ≡ false → rounds ≡ code.with_ahead old.memory.ahead old.memory.rounds → calls.going ≡ true → calls.made ≡ 0 → calls.plan.items ≡ settle_ops old.head rounds.first rounds.second → GoesOnUnseen w (record old { calls = calls })
 begins {old} {w} {calls} {rounds} c side is s holds at idle counted going none planned =
     let m = w.memory in
     let plan : settling_plan m ≡ calls.plan.items = plan_is c side is s holds at ∙ (ap (λ (r : Rounds). settle_ops old.head r.first r.second) (sym counted) ∙ sym planned) in
@@ -192,10 +192,10 @@ none_due (core.GivingUp from to) clients entry made calling due = calling
 not_due : (w : World) (work : Work) → w.memory.work ≡ work → HasEnded w.progress → IsCallDue w.memory.work w.progress (clients_of w.memory) → IsCalling work → ⊥
 not_due w work at ended due calling =
     none_due work (clients_of w.memory) ended.entry ended.made calling
-    (subst (λ (q : Progress). IsCallDue work q (clients_of w.memory)) ended.at (subst (λ (x : Work). IsCallDue x w.progress (clients_of w.memory)) at due))
+    (subst (λ (q : CallProgress). IsCallDue work q (clients_of w.memory)) ended.at (subst (λ (x : Work). IsCallDue x w.progress (clients_of w.memory)) at due))
 
 -- nor is one where all are made
-none_ready : (work : Work) (clients : ℕ) (entry made : List LogOp) → IsReady work clients (InCall entry made []) → IsCalling work → ⊥
+none_ready : (work : Work) (clients : ℕ) (entry made : List LogOp) → IsReadyForStep work clients (InCall entry made []) → IsCalling work → ⊥
 none_ready core.NoWork clients entry made ready calling = calling
 none_ready core.Settling clients entry made ready calling = ready
 none_ready (core.Scanning d part seen) clients entry made ready calling = calling
@@ -204,10 +204,10 @@ none_ready (core.Filling count) clients entry made ready calling = calling
 none_ready (core.Noting from to) clients entry made ready calling = calling
 none_ready (core.GivingUp from to) clients entry made ready calling = calling
 
-not_ready : (w : World) (work : Work) → w.memory.work ≡ work → HasEnded w.progress → IsReady w.memory.work (clients_of w.memory) w.progress → IsCalling work → ⊥
+not_ready : (w : World) (work : Work) → w.memory.work ≡ work → HasEnded w.progress → IsReadyForStep w.memory.work (clients_of w.memory) w.progress → IsCalling work → ⊥
 not_ready w work at ended ready calling =
     none_ready work (clients_of w.memory) ended.entry ended.made
-    (subst (λ (q : Progress). IsReady work (clients_of w.memory) q) ended.at (subst (λ (x : Work). IsReady x (clients_of w.memory) w.progress) at ready)) calling
+    (subst (λ (q : CallProgress). IsReadyForStep work (clients_of w.memory) q) ended.at (subst (λ (x : Work). IsReadyForStep x (clients_of w.memory) w.progress) at ready)) calling
 
 pub shows_recorded : {p : CodeMemory} {m : Memory} → ShowsMemory p m → ShowsMemory (code.recorded p) (record m { work = core.Filling 0; engine = core.Recorded })
 shows_recorded s = record {
@@ -247,7 +247,7 @@ shows_scan s = record {
   rounds = s.rounds;
 }
 
-pub ends_call : {old : CodeWorld} {w : World} {memory : CodeMemory} {calls : Calls} (c side : ℕ) → ShowsWorld old w → w.memory.owner ≡ core.Held c side → c < clients_of w.memory → w.memory.work ≡ core.Calling → old.calls.going ≡ true → length old.calls.plan.items ≤ old.calls.made → memory ≡ code.recorded old.memory → calls ≡ record (old.calls) { going = false } → GoesOn w (record old { memory = memory; calls = calls })
+pub ends_call : {old : CodeWorld} {w : World} {memory : CodeMemory} {calls : Calls} (c side : ℕ) → ShowsWorld old w → w.memory.owner ≡ core.Held c side → c < clients_of w.memory → w.memory.work ≡ core.Calling → old.calls.going ≡ true → length old.calls.plan.items ≤ old.calls.made → memory ≡ code.recorded old.memory → calls ≡ record (old.calls) { going = false } → GoesOnUnseen w (record old { memory = memory; calls = calls })
 ends_call {old} {w} c side s holds there at going past memory_is calls_is =
     let m = w.memory in
     let ended = has_ended s.device going past in
@@ -265,7 +265,7 @@ ends_call {old} {w} c side s holds there at going past memory_is calls_is =
       ready = tt;
     }
 
-pub ends_settling : {old : CodeWorld} {w : World} {memory : CodeMemory} {calls : Calls} (c side : ℕ) → ShowsWorld old w → w.memory.owner ≡ core.Held c side → c < clients_of w.memory → w.memory.work ≡ core.Settling → old.calls.going ≡ true → length old.calls.plan.items ≤ old.calls.made → memory ≡ code.settled old.memory → calls ≡ record (old.calls) { going = false } → GoesOn w (record old { memory = memory; calls = calls })
+pub ends_settling : {old : CodeWorld} {w : World} {memory : CodeMemory} {calls : Calls} (c side : ℕ) → ShowsWorld old w → w.memory.owner ≡ core.Held c side → c < clients_of w.memory → w.memory.work ≡ core.Settling → old.calls.going ≡ true → length old.calls.plan.items ≤ old.calls.made → memory ≡ code.settled old.memory → calls ≡ record (old.calls) { going = false } → GoesOnUnseen w (record old { memory = memory; calls = calls })
 ends_settling {old} {w} {memory} {calls} c side s holds there at going past memory_is calls_is = go w.memory.ahead refl
   where
     ended : HasEnded w.progress
@@ -281,7 +281,7 @@ ends_settling {old} {w} {memory} {calls} c side s holds there at going past memo
     settled_is : (a : Option Round) → w.memory.ahead ≡ a → memory ≡ code.settled_by (side_ahead a) old.memory
     settled_is a is = memory_is ∙ ap (λ (b : Option ℕ). code.settled_by b old.memory) (sym s.memory.ahead ∙ ap side_ahead is)
 
-    go : (a : Option Round) → w.memory.ahead ≡ a → GoesOn w (record old { memory = memory; calls = calls })
+    go : (a : Option Round) → w.memory.ahead ≡ a → GoesOnUnseen w (record old { memory = memory; calls = calls })
     go None is = record {
       middle = record { memory = record (w.memory) { work = core.Scanning 0 core.AtNumber []; engine = core.Resting }; tale = w.tale; progress = NoCall };
       before = silently (λ now. not_ready w core.Settling at ended now tt) (ends_settling_none (record { client = c; there = there; next = record (w.memory) { work = core.Scanning 0 core.AtNumber []; engine = core.Resting }; move = record { side = side; holds = holds; at = at; none = is; is = refl }; entry = ended.entry; made = ended.made; at = ended.at; is = refl })) tt;

@@ -9,7 +9,7 @@ use Rattle.pb_events.specs.declared.event.Stepped.{Stepped}
 use Rattle.pb_events.specs.declared.event.Stepped.TheVariants.{Went, Done}
 use Rattle.pb_core.specs.Client as core
 use Rattle.pb_core.specs.Client.{ask_word, entry_by}
-use Rattle.pb_core.specs.Memory.{Memory, Held, with_at, clients_of, shown, round_of_turn, side_of}
+use Rattle.pb_core.specs.Memory.{Memory, Held, with_at, clients_of, shown, round_of_turn, side_of_operation}
 use Rattle.pb_core.specs.Memory as core_memory
 use Rattle.pb_core.specs.MemoryParts.{IsMemory, HasRead}
 use Rattle.pb_core.specs.WordMoves.{go_to, answered, steps_to, storing, announcing, confirming, taking_sure, taking_unsure}
@@ -22,16 +22,16 @@ use Rattle.pb_play.specs.declared.work.Knowledge.{Knowledge}
 use Rattle.pb_play.specs.declared.work.Knowledge.TheVariants.{Resting, Recorded, Writing, Doubtful}
 use Rattle.pb_play.specs.Maps.{stored_ask, work_of, engine_of}
 use Rattle.pb_round_play.specs.Counts.{counted}
-use Rattle.pb_play.specs.Seats.{seat_of, op_with, stores, announces, is_answered, first_work, takes}
+use Rattle.pb_play.specs.Seats.{seat_of, op_with_word, stores, announces, is_answered, first_work, takes}
 use Rattle.pb_play.specs.Shown.{ShowsSeat, rows_for, ShowsMemory}
-use Rattle.pb_play.specs.Steps.{StepsTo, StepsWord}
+use Rattle.pb_play.specs.Steps.{StepsTo, MakesWordStep}
 use Rattle.pb_play.proofs.Clients.{shows_client, shows_words, shows_stage, word_step}
 use Rattle.pb_play.proofs.Waiting.{stands_at}
 
 -- Storing
 
 -- the word that is stored, ..
-own_word : (seat : Seat) (count : ℕ) → count < 4 → ask_word seat.ask (suc count) ≡ ask_word (stored_ask (record seat { op = op_with count seat.ask.op seat.op })) (suc count)
+own_word : (seat : Seat) (count : ℕ) → count < 4 → ask_word seat.ask (suc count) ≡ ask_word (stored_ask (record seat { op = op_with_word count seat.ask.op seat.op })) (suc count)
 own_word seat zero few = refl
 own_word seat (suc zero) few = refl
 own_word seat (suc (suc zero)) few = refl
@@ -39,7 +39,7 @@ own_word seat (suc (suc (suc zero))) few = refl
 own_word seat (suc (suc (suc (suc more)))) few = absurd (omega (arith, few))
 
 -- .. and the others
-other_word : (seat : Seat) (count place : ℕ) → count < 4 → place < 5 → place ≢ suc count → ask_word (stored_ask seat) place ≡ ask_word (stored_ask (record seat { op = op_with count seat.ask.op seat.op })) place
+other_word : (seat : Seat) (count place : ℕ) → count < 4 → place < 5 → place ≢ suc count → ask_word (stored_ask seat) place ≡ ask_word (stored_ask (record seat { op = op_with_word count seat.ask.op seat.op })) place
 other_word seat zero zero few small apart = refl
 other_word seat zero (suc zero) few small apart = absurd (apart refl)
 other_word seat zero (suc (suc zero)) few small apart = refl
@@ -63,12 +63,12 @@ other_word seat (suc (suc (suc zero))) (suc (suc (suc (suc zero)))) few small ap
 other_word seat (suc (suc (suc zero))) (suc (suc (suc (suc (suc more))))) few small apart = absurd (omega (arith, small))
 other_word seat (suc (suc (suc (suc more)))) place few small apart = absurd (omega (arith, few))
 
-pub stores_word : {old new : CodeMemory} {answer : Stepped} (c count : ℕ) → (seat_of old c).stage ≡ Storing count → count < 4 → new ≡ stores c count old → answer ≡ Went → StepsWord old c new answer
+pub stores_word : {old new : CodeMemory} {answer : Stepped} (c count : ℕ) → (seat_of old c).stage ≡ Storing count → count < 4 → new ≡ stores c count old → answer ≡ Went → MakesWordStep old c new answer
 stores_word {old} {new} c count at few after says m s sound fits running within =
     let before = s.clients c within in
     let seat : Seat = seat_of old c in
     word_step c (stores c count old)
-    (shows_words c (record seat { stage = Storing (count + 1); op = op_with count seat.ask.op seat.op }) (go_to (core.Storing (suc count)) (m.book c)) (with_at (suc count) (ask_word (m.book c).ask (suc count)) (m.requests c)) s within
+    (shows_words c (record seat { stage = Storing (count + 1); op = op_with_word count seat.ask.op seat.op }) (go_to (core.Storing (suc count)) (m.book c)) (with_at (suc count) (ask_word (m.book c).ask (suc count)) (m.requests c)) s within
     (record {
       stage = ap core.Storing (sym (add-one count));
       ask = before.ask;
@@ -81,13 +81,13 @@ stores_word {old} {new} c count at few after says m s sound fits running within 
     (record { running = running; there = within; move = storing (record { place = count; few = few; at = stands_at c s within at; is = refl; says = says }) })
     after
   where
-    go : ShowsSeat (m.book c) (m.requests c) (rows_for m.rows c) (seat_of old c) → (place : ℕ) → place < 5 → (place ≡ suc count) ⊎ (place ≢ suc count) → with_at (suc count) (ask_word (m.book c).ask (suc count)) (m.requests c) place ≡ ask_word (stored_ask (record (seat_of old c) { op = op_with count (seat_of old c).ask.op (seat_of old c).op })) place
+    go : ShowsSeat (m.book c) (m.requests c) (rows_for m.rows c) (seat_of old c) → (place : ℕ) → place < 5 → (place ≡ suc count) ⊎ (place ≢ suc count) → with_at (suc count) (ask_word (m.book c).ask (suc count)) (m.requests c) place ≡ ask_word (stored_ask (record (seat_of old c) { op = op_with_word count (seat_of old c).ask.op (seat_of old c).op })) place
     go before place small (inl same) =
         ap (with_at (suc count) (ask_word (m.book c).ask (suc count)) (m.requests c)) same
         ∙ (with_at-same (suc count) (ask_word (m.book c).ask (suc count)) (m.requests c)
         ∙ (ap (λ (ask : Ask). ask_word ask (suc count)) before.ask
         ∙ (own_word (seat_of old c) count few
-        ∙ ap (ask_word (stored_ask (record (seat_of old c) { op = op_with count (seat_of old c).ask.op (seat_of old c).op }))) (sym same))))
+        ∙ ap (ask_word (stored_ask (record (seat_of old c) { op = op_with_word count (seat_of old c).ask.op (seat_of old c).op }))) (sym same))))
     go before place small (inr apart) =
         with_at-other (suc count) (ask_word (m.book c).ask (suc count)) (m.requests c) place apart
         ∙ (before.stored place small ∙ other_word (seat_of old c) count place few small apart)
@@ -97,7 +97,7 @@ pub storing_few : {old : CodeMemory} {m : Memory} (c count : ℕ) → (seat_of o
 storing_few {old} {m} c count at s sound within =
     subst (λ (stage : core.Stage). HasRead (newest (kept_list_of (shown m) c)) (length m.published) (m.book c).ask.number stage) (stands_at c s within at) (sound.clients c within).read
 
-pub announces_number : {old new : CodeMemory} {answer : Stepped} (c count : ℕ) → (seat_of old c).stage ≡ Storing count → 4 ≤ count → new ≡ announces c old → answer ≡ Went → StepsWord old c new answer
+pub announces_number : {old new : CodeMemory} {answer : Stepped} (c count : ℕ) → (seat_of old c).stage ≡ Storing count → 4 ≤ count → new ≡ announces c old → answer ≡ Went → MakesWordStep old c new answer
 announces_number {old} c count at all after says m s sound fits running within =
     let before = s.clients c within in
     let seat : Seat = seat_of old c in
@@ -126,7 +126,7 @@ announces_number {old} c count at all after says m s sound fits running within =
 
 -- It is answered
 
-pub confirms : {old new : CodeMemory} {answer : Stepped} (c turn : ℕ) (reply : Reply) → (seat_of old c).stage ≡ Confirming turn reply → round_of_turn old.turn ≡ round_of_turn turn → new ≡ is_answered c old → answer ≡ Done (seat_of old c).ask reply → StepsWord old c new answer
+pub confirms : {old new : CodeMemory} {answer : Stepped} (c turn : ℕ) (reply : Reply) → (seat_of old c).stage ≡ Confirming turn reply → round_of_turn old.turn ≡ round_of_turn turn → new ≡ is_answered c old → answer ≡ Done (seat_of old c).ask reply → MakesWordStep old c new answer
 confirms {old} c turn reply at same after says m s sound fits running within =
     let before = s.clients c within in
     let seat : Seat = seat_of old c in
@@ -177,7 +177,7 @@ free_turn {old} {m} c turn found at s sound within = read.2
     read = subst (λ (stage : core.Stage). HasRead (newest (kept_list_of (shown m) c)) (length m.published) (m.book c).ask.number stage) (stands_at c s within at) (sound.clients c within).read
 
 -- the turn is taken
-pub shows_taken : {old : CodeMemory} {m : Memory} (c turn : ℕ) (work : core_memory.Work) → ShowsMemory old m → c < clients_of m → turn + 1 ≡ counted turn → work ≡ work_of (first_work old.knowledge) [] → ShowsMemory (takes c turn old) (record (steps_to c core.Holding m) { turn = turn + 1; owner = Held c (side_of (m.book c).ask.op); work = work })
+pub shows_taken : {old : CodeMemory} {m : Memory} (c turn : ℕ) (work : core_memory.Work) → ShowsMemory old m → c < clients_of m → turn + 1 ≡ counted turn → work ≡ work_of (first_work old.knowledge) [] → ShowsMemory (takes c turn old) (record (steps_to c core.Holding m) { turn = turn + 1; owner = Held c (side_of_operation (m.book c).ask.op); work = work })
 shows_taken {old} {m} c turn work s within next works =
     let a = shows_stage c Holding (go_to core.Holding (m.book c)) s within refl refl refl in
     record {
@@ -189,7 +189,7 @@ shows_taken {old} {m} c turn work s within next works =
       turn = next;
       noted = a.noted;
       count = a.count;
-      owner = ap (λ (ask : Ask). Held c (side_of ask.op)) (s.clients c within).ask;
+      owner = ap (λ (ask : Ask). Held c (side_of_operation ask.op)) (s.clients c within).ask;
       room = a.room;
       work = works;
       met = omega arith;
@@ -198,7 +198,7 @@ shows_taken {old} {m} c turn work s within next works =
       rounds = a.rounds;
     }
 
-pub takes_turn : {old new : CodeMemory} {answer : Stepped} (c turn found : ℕ) → (seat_of old c).stage ≡ Taking turn found → old.turn ≡ turn → turn ≤ last_count → new ≡ takes c turn old → answer ≡ Went → StepsWord old c new answer
+pub takes_turn : {old new : CodeMemory} {answer : Stepped} (c turn found : ℕ) → (seat_of old c).stage ≡ Taking turn found → old.turn ≡ turn → turn ≤ last_count → new ≡ takes c turn old → answer ≡ Went → MakesWordStep old c new answer
 takes_turn {old} {new} {answer} c turn found at same small after says m s sound fits running within = go old.knowledge refl (free_suits sound free)
   where
     even : turn % 2 ≡ 0

@@ -17,7 +17,7 @@ use Rattle.pb_round_play.specs.Seats.{row_by}
 use Rattle.pb_play.specs.Maps.{stage_of, word_of_row}
 use Rattle.pb_play.specs.Seats.{seat_of, goes_to}
 use Rattle.pb_play.specs.Shown.{ShowsMemory}
-use Rattle.pb_play.specs.Steps.{StepsWord}
+use Rattle.pb_play.specs.Steps.{MakesWordStep}
 use Rattle.pb_play.proofs.Clients.{stage_step}
 
 -- where a client stands
@@ -33,7 +33,7 @@ row_word_is {p} {m} c turn place s within few = go (round_of_turn turn % 2) (ome
     go (suc zero) small = (s.clients c within).odd place few
     go (suc (suc more)) small = absurd (omega (arith, small))
 
-pub looks : {old new : CodeMemory} {answer : Stepped} (c : ℕ) → (seat_of old c).stage ≡ Looking → new ≡ goes_to c (LoadsNumber old.turn) old → answer ≡ Went → StepsWord old c new answer
+pub looks : {old new : CodeMemory} {answer : Stepped} (c : ℕ) → (seat_of old c).stage ≡ Looking → new ≡ goes_to c (LoadsNumber old.turn) old → answer ≡ Went → MakesWordStep old c new answer
 looks {old} c at after says m s sound fits running within =
     stage_step c (LoadsNumber old.turn) (sees (core.LoadsNumber m.turn) m.turn (m.book c)) s within
     (record { running = running; there = within; move = looking (record { at = stands_at c s within at; is = refl; says = refl }) })
@@ -43,19 +43,19 @@ looks {old} c at after says m s sound fits running within =
 abbrev pub IsRead : CodeMemory → ℕ → ℕ → Row → Type 0
 IsRead p c turn row = row ≡ row_by (seat_of p c) (round_of_turn turn % 2)
 
-pub loads_code : {old new : CodeMemory} {answer : Stepped} (c turn : ℕ) (row : Row) → IsRead old c turn row → (seat_of old c).stage ≡ LoadsCode turn → new ≡ goes_to c (LoadsValue turn row.reply.code) old → answer ≡ Went → StepsWord old c new answer
+pub loads_code : {old new : CodeMemory} {answer : Stepped} (c turn : ℕ) (row : Row) → IsRead old c turn row → (seat_of old c).stage ≡ LoadsCode turn → new ≡ goes_to c (LoadsValue turn row.reply.code) old → answer ≡ Went → MakesWordStep old c new answer
 loads_code {old} c turn row is at after says m s sound fits running within =
     stage_step c (LoadsValue turn row.reply.code) (go_to (core.LoadsValue turn (own_row m turn c 1)) (m.book c)) s within
     (record { running = running; there = within; move = loading_code (record { turn = turn; at = stands_at c s within at; is = refl; says = refl }) })
     says after (ap (core.LoadsValue turn) (row_word_is c turn 1 s within (omega arith) ∙ ap (λ (r : Row). r.reply.code) (sym is))) refl refl
 
-pub loads_value : {old new : CodeMemory} {answer : Stepped} (c turn code : ℕ) (row : Row) → IsRead old c turn row → (seat_of old c).stage ≡ LoadsValue turn code → new ≡ goes_to c (LoadsExtra turn code row.reply.value) old → answer ≡ Went → StepsWord old c new answer
+pub loads_value : {old new : CodeMemory} {answer : Stepped} (c turn code : ℕ) (row : Row) → IsRead old c turn row → (seat_of old c).stage ≡ LoadsValue turn code → new ≡ goes_to c (LoadsExtra turn code row.reply.value) old → answer ≡ Went → MakesWordStep old c new answer
 loads_value {old} c turn code row is at after says m s sound fits running within =
     stage_step c (LoadsExtra turn code row.reply.value) (go_to (core.LoadsExtra turn code (own_row m turn c 2)) (m.book c)) s within
     (record { running = running; there = within; move = loading_value (record { turn = turn; code = code; at = stands_at c s within at; is = refl; says = refl }) })
     says after (ap (core.LoadsExtra turn code) (row_word_is c turn 2 s within (omega arith) ∙ ap (λ (r : Row). r.reply.value) (sym is))) refl refl
 
-pub loads_extra : {old new : CodeMemory} {answer : Stepped} (c turn code value : ℕ) (row : Row) → IsRead old c turn row → (seat_of old c).stage ≡ LoadsExtra turn code value → new ≡ goes_to c (Confirming turn (record { code = code; value = value; extra = row.reply.extra })) old → answer ≡ Went → StepsWord old c new answer
+pub loads_extra : {old new : CodeMemory} {answer : Stepped} (c turn code value : ℕ) (row : Row) → IsRead old c turn row → (seat_of old c).stage ≡ LoadsExtra turn code value → new ≡ goes_to c (Confirming turn (record { code = code; value = value; extra = row.reply.extra })) old → answer ≡ Went → MakesWordStep old c new answer
 loads_extra {old} c turn code value row is at after says m s sound fits running within =
     stage_step c (Confirming turn (record { code = code; value = value; extra = row.reply.extra }))
     (go_to (core.Confirming turn (record { code = code; value = value; extra = own_row m turn c 3 })) (m.book c)) s within
@@ -65,7 +65,7 @@ loads_extra {old} c turn code value row is at after says m s sound fits running 
 -- Its row's number
 
 -- the number that it found is its own, ..
-pub matches : {old new : CodeMemory} {answer : Stepped} (c turn : ℕ) (row : Row) → IsRead old c turn row → (seat_of old c).stage ≡ LoadsNumber turn → row.number ≡ (seat_of old c).ask.number → new ≡ goes_to c (LoadsCode turn) old → answer ≡ Went → StepsWord old c new answer
+pub matches : {old new : CodeMemory} {answer : Stepped} (c turn : ℕ) (row : Row) → IsRead old c turn row → (seat_of old c).stage ≡ LoadsNumber turn → row.number ≡ (seat_of old c).ask.number → new ≡ goes_to c (LoadsCode turn) old → answer ≡ Went → MakesWordStep old c new answer
 matches {old} c turn row is at own after says m s sound fits running within =
     stage_step c (LoadsCode turn) (go_to (core.LoadsCode turn) (m.book c)) s within
     (record { running = running; there = within; move = matching (record { turn = turn; at = stands_at c s within at; own = row_word_is c turn 0 s within (omega arith) ∙ (ap (λ (r : Row). r.number) (sym is) ∙ (own ∙ ap (λ (a : Ask). a.number) (sym (s.clients c within).ask))); is = refl; says = refl }) })
@@ -79,13 +79,13 @@ other_number c turn row is s within other same =
 found_number : {old : CodeMemory} {m : Memory} (c turn : ℕ) (row : Row) → IsRead old c turn row → ShowsMemory old m → c < clients_of m → own_row m turn c 0 ≡ row.number
 found_number c turn row is s within = row_word_is c turn 0 s within (omega arith) ∙ ap (λ (r : Row). r.number) (sym is)
 
-pub lacks_held : {old new : CodeMemory} {answer : Stepped} (c turn : ℕ) (row : Row) → IsRead old c turn row → (seat_of old c).stage ≡ LoadsNumber turn → row.number ≢ (seat_of old c).ask.number → turn % 2 ≡ 1 → new ≡ goes_to c (Lacking turn row.number) old → answer ≡ Went → StepsWord old c new answer
+pub lacks_held : {old new : CodeMemory} {answer : Stepped} (c turn : ℕ) (row : Row) → IsRead old c turn row → (seat_of old c).stage ≡ LoadsNumber turn → row.number ≢ (seat_of old c).ask.number → turn % 2 ≡ 1 → new ≡ goes_to c (Lacking turn row.number) old → answer ≡ Went → MakesWordStep old c new answer
 lacks_held {old} c turn row is at other held after says m s sound fits running within =
     stage_step c (Lacking turn row.number) (go_to (core.Lacking turn (own_row m turn c 0)) (m.book c)) s within
     (record { running = running; there = within; move = lacking_held (record { turn = turn; at = stands_at c s within at; other = other_number c turn row is s within other; held = held; is = refl; says = refl }) })
     says after (ap (core.Lacking turn) (found_number c turn row is s within)) refl refl
 
-pub lacks_free : {old new : CodeMemory} {answer : Stepped} (c turn : ℕ) (row : Row) → IsRead old c turn row → (seat_of old c).stage ≡ LoadsNumber turn → row.number ≢ (seat_of old c).ask.number → turn % 2 ≡ 0 → new ≡ goes_to c (Taking turn row.number) old → answer ≡ Went → StepsWord old c new answer
+pub lacks_free : {old new : CodeMemory} {answer : Stepped} (c turn : ℕ) (row : Row) → IsRead old c turn row → (seat_of old c).stage ≡ LoadsNumber turn → row.number ≢ (seat_of old c).ask.number → turn % 2 ≡ 0 → new ≡ goes_to c (Taking turn row.number) old → answer ≡ Went → MakesWordStep old c new answer
 lacks_free {old} c turn row is at other free after says m s sound fits running within =
     stage_step c (Taking turn row.number) (go_to (core.Taking turn (own_row m turn c 0)) (m.book c)) s within
     (record { running = running; there = within; move = lacking_free (record { turn = turn; at = stands_at c s within at; other = other_number c turn row is s within other; free = free; is = refl; says = refl }) })
@@ -99,19 +99,19 @@ IsBusy old c turn answer = answer ≡ Busy (seat_of old c).ask turn old.turn
 busy_is : {old : CodeMemory} {m : Memory} {answer : Stepped} (c turn : ℕ) → ShowsMemory old m → c < clients_of m → IsBusy old c turn answer → answer ≡ Busy (m.book c).ask turn m.turn
 busy_is {old} {m} c turn s within says = says ∙ (λ i. Busy (sym (s.clients c within).ask i) turn (sym s.turn i))
 
-pub finds_new : {old new : CodeMemory} {answer : Stepped} (c turn : ℕ) (reply : Reply) → (seat_of old c).stage ≡ Confirming turn reply → round_of_turn old.turn ≢ round_of_turn turn → new ≡ goes_to c Looking old → IsBusy old c turn answer → StepsWord old c new answer
+pub finds_new : {old new : CodeMemory} {answer : Stepped} (c turn : ℕ) (reply : Reply) → (seat_of old c).stage ≡ Confirming turn reply → round_of_turn old.turn ≢ round_of_turn turn → new ≡ goes_to c Looking old → IsBusy old c turn answer → MakesWordStep old c new answer
 finds_new {old} c turn reply at other after says m s sound fits running within =
     stage_step c Looking (sees core.Looking m.turn (m.book c)) s within
     (record { running = running; there = within; move = finding_new (record { turn = turn; reply = reply; at = stands_at c s within at; other = λ same. other (ap round_of_turn (sym s.turn) ∙ same); is = refl; says = refl }) })
     (busy_is c turn s within says) after refl refl refl
 
-pub finds_held : {old new : CodeMemory} {answer : Stepped} (c turn found : ℕ) → (seat_of old c).stage ≡ Lacking turn found → new ≡ goes_to c Looking old → IsBusy old c turn answer → StepsWord old c new answer
+pub finds_held : {old new : CodeMemory} {answer : Stepped} (c turn found : ℕ) → (seat_of old c).stage ≡ Lacking turn found → new ≡ goes_to c Looking old → IsBusy old c turn answer → MakesWordStep old c new answer
 finds_held {old} c turn found at after says m s sound fits running within =
     stage_step c Looking (sees core.Looking m.turn (m.book c)) s within
     (record { running = running; there = within; move = finding_held (record { turn = turn; found = found; at = stands_at c s within at; is = refl; says = refl }) })
     (busy_is c turn s within says) after refl refl refl
 
-pub misses : {old new : CodeMemory} {answer : Stepped} (c turn found : ℕ) → (seat_of old c).stage ≡ Taking turn found → old.turn ≢ turn → new ≡ goes_to c Looking old → IsBusy old c turn answer → StepsWord old c new answer
+pub misses : {old new : CodeMemory} {answer : Stepped} (c turn found : ℕ) → (seat_of old c).stage ≡ Taking turn found → old.turn ≢ turn → new ≡ goes_to c Looking old → IsBusy old c turn answer → MakesWordStep old c new answer
 misses {old} c turn found at other after says m s sound fits running within =
     stage_step c Looking (sees core.Looking m.turn (m.book c)) s within
     (record { running = running; there = within; move = missing (record { turn = turn; found = found; at = stands_at c s within at; other = λ same. other (sym s.turn ∙ same); is = refl; says = refl }) })

@@ -4,7 +4,7 @@ use Rattle.pb_crash.specs.declared.leaves.Leaves.{Leaves}
 use Rattle.pb_pmem.specs.declared.log.LogOp.{LogOp}
 use Rattle.pb_pmem.specs.Contents.{contents}
 use Rattle.pb_pmem.specs.Device.{Tale, with_op}
-use Rattle.pb_core.specs.World.{Progress, NoCall, InCall}
+use Rattle.pb_core.specs.World.{CallProgress, NoCall, InCall}
 use Rattle.pb_core.specs.WorldMoves.{failed}
 use Rattle.pb_play.specs.declared.calls.Calls.{Calls}
 use Rattle.pb_play.specs.declared.device.Device.{Device}
@@ -14,27 +14,27 @@ pub record IsReached (plan : List LogOp) (reached : ℕ) (made left : List LogOp
   pub all : made ++ left ≡ plan
   pub count : length made ≡ reached
 
-abbrev pub ShowsProgress : Bool → List LogOp → ℕ → Progress → Type 0
+abbrev pub ShowsProgress : Bool → List LogOp → ℕ → CallProgress → Type 0
 ShowsProgress false plan reached NoCall = Unit {0}
 ShowsProgress false plan reached (InCall entry made left) = ⊥
 ShowsProgress true plan reached NoCall = ⊥
 ShowsProgress true plan reached (InCall entry made left) = IsReached plan reached made left
 
 -- the device, with the calls that are being made
-pub record ShowsDevice (calls : Calls) (device : Device) (tale : Tale) (progress : Progress) : Type 0 where
+pub record ShowsDevice (calls : Calls) (device : Device) (tale : Tale) (progress : CallProgress) : Type 0 where
   pub progress_is : ShowsProgress calls.going calls.plan.items calls.made progress
   pub base : tale.base ≡ device.base.items
   pub log : tale.log ≡ device.log.items
   pub lines : contents tale.base tale.log ≡ device.lines.items
 
 -- all are made
-abbrev pub IsMade : Progress → Type 0
+abbrev pub IsMade : CallProgress → Type 0
 IsMade NoCall = ⊥
 IsMade (InCall entry made []) = Unit {0}
 IsMade (InCall entry made (op ∷ left)) = ⊥
 
 -- the next call is made
-pub record MakesCall (tale : Tale) (progress : Progress) (calls : Calls) (device : Device) : Type 0 where
+pub record MakesCall (tale : Tale) (progress : CallProgress) (calls : Calls) (device : Device) : Type 0 where
   pub entry : List LogOp
   pub made : List LogOp
   pub op : LogOp
@@ -43,7 +43,7 @@ pub record MakesCall (tale : Tale) (progress : Progress) (calls : Calls) (device
   pub shows : ShowsDevice calls device (with_op op tale) (InCall entry (made ++ op ∷ []) left)
 
 -- .. or fails
-pub record FailsCall (how : Leaves) (tale : Tale) (progress : Progress) (calls : Calls) (device : Device) : Type 0 where
+pub record FailsCall (how : Leaves) (tale : Tale) (progress : CallProgress) (calls : Calls) (device : Device) : Type 0 where
   pub entry : List LogOp
   pub made : List LogOp
   pub op : LogOp

@@ -18,5 +18,5 @@ pub record RepeatsRows (old new : Memory) : Type 0 where
   pub each : (client : ℕ) → client < 16 → seat_of new client ≡ repeats old.turn (seat_of old client)
 
 -- the requests that were scanned
-abbrev pub asks_of : Memory → List Ask
-asks_of m = take m.met m.seen
+abbrev pub scanned_asks : Memory → List Ask
+scanned_asks m = take m.met m.seen

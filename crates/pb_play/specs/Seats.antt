@@ -1,11 +1,11 @@
 -- Changes of one client among all, in code.
 use Rattle.std.specs.Prelude.{ℕ, zero, suc, ◌+◌, ◌-◌, ◌*◌, ◌%◌, Option, Some, None, nat_lt, replicate, slice_set, if◌then◌else◌}
-use Rattle.pb_core.specs.Client.{no_ask}
+use Rattle.pb_core.specs.Client.{no_request}
 use Rattle.pb_object.specs.declared.request.Ask.{Ask}
 use Rattle.pb_object.specs.declared.request.Op.{Op}
-use Rattle.pb_core.specs.Memory.{round_of_turn, side_of}
+use Rattle.pb_core.specs.Memory.{round_of_turn, side_of_operation}
 use Rattle.pb_layout.specs.declared.header.Header.{Header}
-use Rattle.pb_round_play.specs.Counts.{counted, with_round}
+use Rattle.pb_round_play.specs.Counts.{counted, with_side_counted}
 use Rattle.pb_round_play.specs.Seats.{no_seat, seat_at}
 use Rattle.pb_play.specs.declared.memory.Memory.{Memory}
 use Rattle.pb_round_play.specs.declared.rounds.Rounds.{Rounds}
@@ -32,16 +32,16 @@ abbrev pub goes_to : ℕ → Stage → Memory → Memory
 goes_to client stage m = with_seat client (record (seat_of m client) { stage = stage }) m
 
 -- an operation with a word of another
-abbrev pub op_with : ℕ → Op → Op → Op
-op_with zero from op = record op { code = from.code }
-op_with (suc zero) from op = record op { a = from.a }
-op_with (suc (suc zero)) from op = record op { b = from.b }
-op_with (suc (suc (suc more))) from op = record op { c = from.c }
+abbrev pub op_with_word : ℕ → Op → Op → Op
+op_with_word zero from op = record op { code = from.code }
+op_with_word (suc zero) from op = record op { a = from.a }
+op_with_word (suc (suc zero)) from op = record op { b = from.b }
+op_with_word (suc (suc (suc more))) from op = record op { c = from.c }
 
 -- it stores a word of its request, or its number
 abbrev pub stores : ℕ → ℕ → Memory → Memory
 stores client count m =
-    with_seat client (record (seat_of m client) { stage = Storing (count + 1); op = op_with count (seat_of m client).ask.op (seat_of m client).op }) m
+    with_seat client (record (seat_of m client) { stage = Storing (count + 1); op = op_with_word count (seat_of m client).ask.op (seat_of m client).op }) m
 
 abbrev pub announces : ℕ → Memory → Memory
 announces client m = with_seat client (record (seat_of m client) { stage = Looking; number = (seat_of m client).ask.number }) m
@@ -61,7 +61,7 @@ first_work Doubtful = Settling
 abbrev pub takes : ℕ → ℕ → Memory → Memory
 takes client turn m = goes_to client Holding (record m {
   turn = counted turn;
-  owner = Held client (side_of (seat_of m client).ask.op);
+  owner = Held client (side_of_operation (seat_of m client).ask.op);
   met = 0;
   work = first_work m.knowledge;
 })
@@ -74,8 +74,8 @@ at_work work m = record m { work = work }
 abbrev pub with_seen : Ask → Memory → Memory
 with_seen ask m = if nat_lt m.met 16 then record m { seen = slice_set m.seen m.met ask; met = m.met + 1 } else m
 
-abbrev pub sees : Ask → Memory → Memory
-sees ask m = at_work (Scanning (ask.client + 1) AtNumber) (with_seen ask m)
+abbrev pub with_ask_seen : Ask → Memory → Memory
+with_ask_seen ask m = at_work (Scanning (ask.client + 1) AtNumber) (with_seen ask m)
 
 -- Publishing. A row with a word of another
 abbrev pub row_with : ℕ → Row → Row → Row
@@ -97,11 +97,11 @@ stores_row client word m = at_work (Filling (4 * client + word + 1)) (with_seat 
 
 abbrev pub with_ahead : Option ℕ → Rounds → Rounds
 with_ahead None rounds = rounds
-with_ahead (Some side) rounds = with_round side rounds
+with_ahead (Some side) rounds = with_side_counted side rounds
 
 -- the round ahead is published, and the turn is free
-abbrev pub with_published : Memory → Memory
-with_published m = record m {
+abbrev pub with_round_published : Memory → Memory
+with_round_published m = record m {
   rounds = with_ahead m.ahead m.rounds;
   ahead = None;
   turn = counted m.turn;
@@ -137,8 +137,8 @@ abbrev pub begins_asking : Ask → Memory → Memory
 begins_asking ask m = with_seat ask.client (record (seat_of m ask.client) { stage = Storing 0; ask = ask }) m
 
 -- the region is open again
-abbrev pub opened : Memory → Memory
-opened m = record m { owner = Free; knowledge = Resting }
+abbrev pub with_region_open : Memory → Memory
+with_region_open m = record m { owner = Free; knowledge = Resting }
 
 -- a call of the device failed
 abbrev pub fails : Memory → Memory
@@ -153,8 +153,8 @@ abbrev pub drops : Memory → Memory
 drops m = record m { ahead = None }
 
 -- memory over a region that was just formatted
-abbrev pub fresh_memory : Header → Memory
-fresh_memory head = record {
+abbrev pub formatted_memory : Header → Memory
+formatted_memory head = record {
   head = head;
   seats = replicate 16 no_seat;
   turn = 0;
@@ -162,7 +162,7 @@ fresh_memory head = record {
   count = 0;
   owner = Free;
   work = NoWork;
-  seen = replicate 16 no_ask;
+  seen = replicate 16 no_request;
   met = 0;
   knowledge = Resting;
   rounds = record { first = 0; second = 0 };

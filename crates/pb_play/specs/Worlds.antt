@@ -4,7 +4,7 @@ use Rattle.pb_pmem.specs.declared.log.LogOp.{LogOp}
 use Rattle.pb_pmem.specs.Device.{with_op}
 use Rattle.pb_layout.specs.declared.header.Header.{Header}
 use Rattle.pb_layout.specs.Header.{record_length}
-use Rattle.pb_core.specs.Fresh.{IsFresh}
+use Rattle.pb_core.specs.Fresh.{IsFreshWorld}
 use Rattle.pb_layout.specs.Represents.{header_for}
 use Rattle.pb_events.specs.declared.event.Event.{Event}
 use Rattle.pb_events.specs.declared.event.Event.TheVariants.{Ask as AskEvent, Step, Fail, Crash, Reopen, ReopenFail}
@@ -13,9 +13,9 @@ use Rattle.pb_events.specs.declared.event.Stepped.TheVariants.{Impossible}
 use Rattle.pb_core.specs.DeviceParts.{IsWorld}
 use Rattle.pb_core.specs.Memory.{Held, clients_of}
 use Rattle.pb_core.specs.Possible.{IsPossible, IsCallDue, IsReopening, MayAsk, MayStep, MayFail, MayCrash}
-use Rattle.pb_core.specs.WordMoves.{IsRunning}
+use Rattle.pb_core.specs.WordMoves.{IsNotReopening}
 use Rattle.pb_core.specs.World.{InCall, World}
-use Rattle.pb_core.specs.Play.{IsCallable, IsReady, IsCalling, ComesBefore, PlaysMove, NextPlayed}
+use Rattle.pb_core.specs.Play.{IsCallable, IsReadyForStep, IsCalling, ComesBefore, PlaysMove, NextPlayed}
 use Rattle.pb_play.specs.declared.world.World.{World as CodeWorld}
 use Rattle.pb_play.specs.Device.{ShowsDevice}
 use Rattle.pb_round_play.specs.Items.{ItemsFit}
@@ -103,14 +103,14 @@ pub record IsDue (w : World) : Type 0 where
   pub callable : IsCallable w.progress
 
 -- it shows what moves that nobody sees make of a world, after which there is none before the holder's next step
-pub record GoesOn (w : World) (new : CodeWorld) : Type 0 where
+pub record GoesOnUnseen (w : World) (new : CodeWorld) : Type 0 where
   pub middle : World
-  pub before : ComesBefore (IsReady w.memory.work (clients_of w.memory) w.progress) w middle
+  pub before : ComesBefore (IsReadyForStep w.memory.work (clients_of w.memory) w.progress) w middle
   pub shows : ShowsWorld new middle
   pub owner : middle.memory.owner ≡ w.memory.owner
   pub clients : clients_of middle.memory ≡ clients_of w.memory
   pub due : IsCallDue w.memory.work w.progress (clients_of w.memory) → IsDue middle
-  pub ready : IsReady middle.memory.work (clients_of middle.memory) middle.progress
+  pub ready : IsReadyForStep middle.memory.work (clients_of middle.memory) middle.progress
 
 -- the next call of the device is made
 pub record CallsNext (w : World) (new : CodeWorld) : Type 0 where
@@ -124,14 +124,14 @@ pub record CallsNext (w : World) (new : CodeWorld) : Type 0 where
 -- where it was being opened again, the region is open now
 pub record IsOpened (w : World) (new : CodeWorld) : Type 0 where
   pub middle : World
-  pub before : ComesBefore (IsRunning w.memory.owner) w middle
+  pub before : ComesBefore (IsNotReopening w.memory.owner) w middle
   pub shows : ShowsWorld new middle
   pub start : middle.memory.start ≡ w.memory.start
   pub book : middle.memory.book ≡ w.memory.book
-  pub running : IsRunning middle.memory.owner
+  pub running : IsNotReopening middle.memory.owner
 
 -- it shows a world over a region that was just formatted
 pub record IsBegun (head : Header) (new : CodeWorld) : Type 0 where
   pub world : World
-  pub fresh : IsFresh head world
+  pub fresh : IsFreshWorld head world
   pub shows : ShowsWorld new world

@@ -8,7 +8,7 @@ ghost use Rattle.pb_events.specs.declared.event.Event.{Event};
 ghost use Rattle.pb_core.specs.Play.{IsCallable};
 ghost use Rattle.pb_round_play.specs.Counts.{counted};
 ghost use Rattle.pb_play.specs.Seats.{with_ahead, recorded, begins_scan, settled, fails, drops};
-ghost use Rattle.pb_play.specs.Worlds.{IsBuilt, IsHeldFor, HasRoom, LosesOneAtMost, ShowsWorld, GoesOn, CallsNext, IsDue, MovesTo};
+ghost use Rattle.pb_play.specs.Worlds.{IsBuilt, IsHeldFor, HasRoom, LosesOneAtMost, ShowsWorld, GoesOnUnseen, CallsNext, IsDue, MovesTo};
 
 use crate::memory::Memory;
 use crate::next::begin_round;
@@ -33,7 +33,7 @@ pub fn go_on(world: &mut World, side: u32)
         → ShowsWorld world.old w
         → w.memory.owner ≡ Held client side
         → client < clients_of w.memory
-        → GoesOn w world.new }
+        → GoesOnUnseen w world.new }
 {
     match world.memory.work {
         Work::NoWork => {}
@@ -59,7 +59,7 @@ fn go_on_scanning(world: &mut World, client: u32, part: Part, side: u32)
         → ShowsWorld world.old w
         → w.memory.owner ≡ Held holder side
         → holder < clients_of w.memory
-        → GoesOn w world.new }
+        → GoesOnUnseen w world.new }
 {
     let head = world.head;
     if client != head.clients {
@@ -86,7 +86,7 @@ fn go_on_scanned(world: &mut World, side: u32)
         → ShowsWorld world.old w
         → w.memory.owner ≡ Held holder side
         → holder < clients_of w.memory
-        → GoesOn w world.new }
+        → GoesOnUnseen w world.new }
 {
     if world.calls.going {
         return;
@@ -105,7 +105,7 @@ fn go_on_settling(world: &mut World)
         → w.memory.owner ≡ Held client side
         → client < clients_of w.memory
         → w.memory.work ≡ Settling
-        → GoesOn w world.new }
+        → GoesOnUnseen w world.new }
 {
     if !world.calls.going {
         let rounds = rounds_ahead(&world.memory);
@@ -152,7 +152,7 @@ fn go_on_calling(world: &mut World)
         → w.memory.owner ≡ Held client side
         → client < clients_of w.memory
         → w.memory.work ≡ Calling
-        → GoesOn w world.new }
+        → GoesOnUnseen w world.new }
 {
     if !world.calls.going {
         return;

@@ -4,7 +4,7 @@ ghost use Rattle.pb_pmem.specs.Device.{Tale};
 ghost use Rattle.pb_crash.specs.Leaves.{left_by};
 ghost use Rattle.pb_layout.specs.declared.header.Header.{Header};
 ghost use Rattle.pb_layout.specs.Header.{record_length};
-ghost use Rattle.pb_core.specs.World.{Progress};
+ghost use Rattle.pb_core.specs.World.{CallProgress};
 
 use crate::device::Device;
 use pb_crash::{Leaves, left_by};
@@ -80,7 +80,7 @@ impl Calls {
         ensures shaped { (head : Header) → IsCalls head self.old → IsCalls head self.new }
         ensures spare { length device.new.log.items ≤ length device.old.log.items + 1 }
         ensures room { device.new.room ≡ device.old.room }
-        ensures made { (tale : Tale) (progress : Progress)
+        ensures made { (tale : Tale) (progress : CallProgress)
             → ShowsDevice self.old device.old tale progress
             → IsCallable progress
             → (result ≡ true) × MakesCall tale progress self.new device.new }
@@ -102,7 +102,7 @@ impl Calls {
         ensures shaped { (head : Header) → IsCalls head self.old → IsCalls head self.new }
         ensures spare { length device.new.log.items ≤ length device.old.log.items + 1 }
         ensures room { device.new.room ≡ device.old.room }
-        ensures failed { (tale : Tale) (progress : Progress)
+        ensures failed { (tale : Tale) (progress : CallProgress)
             → ShowsDevice self.old device.old tale progress
             → IsCallable progress
             → (result ≡ true) × FailsCall how tale progress self.new device.new }

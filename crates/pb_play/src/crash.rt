@@ -11,7 +11,7 @@ ghost use Rattle.pb_object.specs.Standing.{Standing};
 ghost use Rattle.pb_object.specs.History.{History, Entry, state_after};
 ghost use Rattle.pb_layout.specs.Recovered.{Represents};
 ghost use Rattle.pb_layout.specs.Represents.{header_for};
-ghost use Rattle.pb_core.specs.Memory.{opened};
+ghost use Rattle.pb_core.specs.Memory.{memory_at_opening};
 ghost use Rattle.pb_pmem.specs.Lines.{word_of};
 ghost use Rattle.pb_object.specs.Standing.{side_count};
 ghost use Rattle.pb_layout.specs.Slots.{newer_of};
@@ -56,7 +56,7 @@ fn found(lines: &[Line], head: &Header) -> Memory
     ensures { (start : Standing) (past : History) (answers : List Entry)
         → Represents lines.now (state_after start past)
         → header_for start ≡ head.now
-        → ShowsMemory result (opened start past answers) }
+        → ShowsMemory result (memory_at_opening start past answers) }
 {
     let rounds = rounds_in(lines);
     let mut memory = Memory {

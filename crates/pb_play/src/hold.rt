@@ -5,7 +5,7 @@ ghost use Rattle.pb_core.specs.DeviceParts.{IsWorld};
 ghost use Rattle.pb_core.specs.Memory.{Held, clients_of};
 ghost use Rattle.pb_core.specs.World.{World as CoreWorld};
 ghost use Rattle.pb_play.specs.Worlds.{IsBuilt, IsShown, HasRoom, LosesOneAtMost, ShowsWorld, MovesTo, HasStepped};
-ghost use Rattle.pb_core.specs.Play.{IsReady};
+ghost use Rattle.pb_core.specs.Play.{IsReadyForStep};
 
 use crate::between::{call, go_on};
 use crate::publish::{fill, give_up, note};
@@ -46,7 +46,7 @@ fn act(world: &mut World, client: u32, side: u32) -> Stepped
         → IsWorld w
         → ShowsWorld world.old w
         → client < clients_of w.memory
-        → IsReady w.memory.work (clients_of w.memory) w.progress
+        → IsReadyForStep w.memory.work (clients_of w.memory) w.progress
         → MovesTo w (Event.Step client) world.new result }
 {
     match world.memory.work {
@@ -74,7 +74,7 @@ fn scan_next(world: &mut World, client: u32, side: u32, scanned: u32, part: Part
         → IsWorld w
         → ShowsWorld world.old w
         → client < clients_of w.memory
-        → IsReady w.memory.work (clients_of w.memory) w.progress
+        → IsReadyForStep w.memory.work (clients_of w.memory) w.progress
         → MovesTo w (Event.Step client) world.new result }
 {
     let head = world.memory.head;

@@ -27,11 +27,11 @@ pub struct Memory {
 }
 
 impl Memory {
-    ghost use Rattle.pb_play.specs.Seats.{fresh_memory};
+    ghost use Rattle.pb_play.specs.Seats.{formatted_memory};
 
     /// Memory over a region that was just formatted.
     pub fn fresh(head: Header) -> Self
-        ensures { result ≡ fresh_memory head }
+        ensures { result ≡ formatted_memory head }
     {
         Memory {
             head,

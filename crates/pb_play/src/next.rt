@@ -11,10 +11,10 @@ ghost use Rattle.pb_engine.specs.Asks.{asked_round};
 ghost use Rattle.pb_engine.specs.Next.{IsBegun};
 ghost use Rattle.pb_round_play.specs.Items.{ItemsFit};
 ghost use Rattle.pb_round_play.specs.Rounds.{MayBegin, MakesRecord};
-ghost use Rattle.pb_play.specs.Rounds.{RepeatsRows, asks_of};
+ghost use Rattle.pb_play.specs.Rounds.{RepeatsRows, scanned_asks};
 ghost use Rattle.pb_play.specs.Seats.{begins_round};
 ghost use Rattle.pb_round_play.specs.Shape.{AreWithin};
-ghost use Rattle.pb_play.specs.Worlds.{IsBuilt, IsHeldFor, ShowsWorld, GoesOn};
+ghost use Rattle.pb_play.specs.Worlds.{IsBuilt, IsHeldFor, ShowsWorld, GoesOnUnseen};
 
 use crate::memory::Memory;
 use crate::work::{Knowledge, Part, Work};
@@ -37,7 +37,7 @@ pub fn begin_round(world: &mut World, side: u32)
         → ShowsWorld world.old w
         → w.memory.owner ≡ Held client side
         → client < clients_of w.memory
-        → GoesOn w world.new }
+        → GoesOnUnseen w world.new }
 {
     let head = world.head;
     let rounds = world.memory.rounds.of(side);
@@ -85,7 +85,7 @@ fn make_record(world: &mut World, side: u32)
     requires plan { world.old.calls.plan.items ≡ [] }
     requires room { 32 ≤ vec_capacity world.old.calls.plan }
     requires met { world.old.memory.met ≤ 16 }
-    requires may { (s : Standing) × MayBegin world.old.head world.old.device.lines.items world.old.memory.rounds (asks_of world.old.memory) side s }
+    requires may { (s : Standing) × MayBegin world.old.head world.old.device.lines.items world.old.memory.rounds (scanned_asks world.old.memory) side s }
     ensures frame { world.new ≡ record world.old {
       memory = record world.old.memory { seats = world.new.memory.seats };
       calls = record world.old.calls { plan = world.new.calls.plan };
@@ -98,8 +98,8 @@ fn make_record(world: &mut World, side: u32)
     ensures within { AreWithin world.new.calls.plan.items }
     ensures capacity { vec_capacity world.old.calls.plan ≤ vec_capacity world.new.calls.plan }
     ensures made { (s : Standing)
-        → MayBegin world.old.head world.old.device.lines.items world.old.memory.rounds (asks_of world.old.memory) side s
-        → MakesRecord world.old.device.lines.items s (asked_round s (asks_of world.old.memory)) world.old.memory.seats world.new.next.items world.new.memory.seats world.new.calls.plan.items }
+        → MayBegin world.old.head world.old.device.lines.items world.old.memory.rounds (scanned_asks world.old.memory) side s
+        → MakesRecord world.old.device.lines.items s (asked_round s (scanned_asks world.old.memory)) world.old.memory.seats world.new.next.items world.new.memory.seats world.new.calls.plan.items }
 {
     let head = world.head;
     let rounds = world.memory.rounds;

@@ -1,8 +1,8 @@
 //! Filling the next reply row, publishing, and giving up.
 ghost use Rattle.std.specs.Prelude.{◌≡◌, ◌≢◌, ◌+◌, ◌*◌, ◌%◌, ◌-◌, ◌<◌};
 ghost use Rattle.pb_round_play.specs.Counts.{counted};
-ghost use Rattle.pb_play.specs.Seats.{seat_of, stores_row, fills, row_with, with_published, goes_to, is_answered, notes, gives_up};
-ghost use Rattle.pb_play.specs.Steps.{StepsWord};
+ghost use Rattle.pb_play.specs.Seats.{seat_of, stores_row, fills, row_with, with_round_published, goes_to, is_answered, notes, gives_up};
+ghost use Rattle.pb_play.specs.Steps.{MakesWordStep};
 
 use crate::memory::Memory;
 use crate::wait::{answer, go_to};
@@ -16,7 +16,7 @@ pub fn fill(memory: &mut Memory, client: u32, side: u32, count: u32) -> Stepped
     requires small { client < 16 }
     requires holds { memory.old.owner ≡ Owner.Held client side }
     requires at { memory.old.work ≡ Work.Filling count }
-    ensures { StepsWord memory.old client memory.new result }
+    ensures { MakesWordStep memory.old client memory.new result }
 {
     let _ = side;
     let head = memory.head;
@@ -96,10 +96,10 @@ fn with_word(row: Row, word: u32, from: &Row) -> Row
 fn publish(memory: &mut Memory, client: u32) -> Stepped
     requires { client < 16 }
     ensures own { (seat_of memory.old client).ahead.number ≡ (seat_of memory.old client).ask.number
-        → (memory.new ≡ is_answered client (with_published memory.old))
+        → (memory.new ≡ is_answered client (with_round_published memory.old))
         × (result ≡ Stepped.Done (seat_of memory.old client).ask (seat_of memory.old client).ahead.reply) }
     ensures others { (seat_of memory.old client).ahead.number ≢ (seat_of memory.old client).ask.number
-        → (memory.new ≡ goes_to client Stage.Looking (with_published memory.old))
+        → (memory.new ≡ goes_to client Stage.Looking (with_round_published memory.old))
         × (result ≡ Stepped.Busy (seat_of memory.old client).ask (memory.old.turn - 1) (counted memory.old.turn)) }
 {
     let held = memory.turn;
@@ -122,7 +122,7 @@ fn publish(memory: &mut Memory, client: u32) -> Stepped
 }
 
 fn free(memory: &mut Memory)
-    ensures { memory.new ≡ with_published memory.old }
+    ensures { memory.new ≡ with_round_published memory.old }
 {
     if let Some(side) = memory.ahead {
         memory.rounds = memory.rounds.with(side);
@@ -138,7 +138,7 @@ fn free(memory: &mut Memory)
 pub fn note(memory: &mut Memory, client: u32, side: u32, from: u64, to: u64) -> Stepped
     requires holds { memory.old.owner ≡ Owner.Held client side }
     requires at { memory.old.work ≡ Work.Noting from to }
-    ensures { StepsWord memory.old client memory.new result }
+    ensures { MakesWordStep memory.old client memory.new result }
 {
     let _ = client;
     let _ = side;
@@ -159,7 +159,7 @@ pub fn give_up(memory: &mut Memory, client: u32, side: u32, from: u64, to: u64) 
     requires small { client < 16 }
     requires holds { memory.old.owner ≡ Owner.Held client side }
     requires at { memory.old.work ≡ Work.GivingUp from to }
-    ensures { StepsWord memory.old client memory.new result }
+    ensures { MakesWordStep memory.old client memory.new result }
 {
     let _ = side;
     let ask = memory.seats[client as usize].ask;

@@ -4,7 +4,7 @@ ghost use Rattle.pb_core.specs.DeviceParts.{IsWorld};
 ghost use Rattle.pb_events.specs.declared.event.Event.{Event};
 ghost use Rattle.pb_core.specs.Possible.{IsReopening};
 ghost use Rattle.pb_core.specs.World.{World as CoreWorld};
-ghost use Rattle.pb_play.specs.Seats.{opened};
+ghost use Rattle.pb_play.specs.Seats.{with_region_open};
 ghost use Rattle.pb_play.specs.Worlds.{IsBuilt, HasRoom, LosesOneAtMost, ShowsWorld, IsOpened, HasStepped};
 
 use crate::between::call;
@@ -61,7 +61,7 @@ pub fn open(world: &mut World)
     ensures shaped { IsBuilt world.new }
     ensures device { world.new.device ≡ world.old.device }
     ensures head { world.new.memory.head ≡ world.old.memory.head }
-    ensures opened { (w : CoreWorld) → ShowsWorld world.old w → ¬ IsReopening w → IsOpened w world.new }
+    ensures with_region_open { (w : CoreWorld) → ShowsWorld world.old w → ¬ IsReopening w → IsOpened w world.new }
 {
     match world.memory.owner {
         Owner::Free => {}
@@ -74,7 +74,7 @@ pub fn open(world: &mut World)
 }
 
 fn open_memory(memory: &mut Memory)
-    ensures { memory.new ≡ opened memory.old }
+    ensures { memory.new ≡ with_region_open memory.old }
 {
     memory.owner = Owner::Free;
     memory.knowledge = Knowledge::Resting;

@@ -1,6 +1,6 @@
 //! The scan: the holder looks at each client's request.
 ghost use Rattle.std.specs.Prelude.{◌≡◌, ◌+◌, ◌↔◌, ◌<◌, IsTrue};
-ghost use Rattle.pb_play.specs.Seats.{seat_of, at_work, sees};
+ghost use Rattle.pb_play.specs.Seats.{seat_of, at_work, with_ask_seen};
 ghost use Rattle.pb_play.specs.Steps.{StepsHeld};
 
 use crate::memory::Memory;
@@ -121,7 +121,7 @@ fn scan_third(memory: &mut Memory, client: u32, number: u64, op: Op, side: u32) 
 
 fn see(memory: &mut Memory, ask: &Ask) -> Stepped
     requires { ask.now.client < 16 }
-    ensures after { memory.new ≡ sees ask.now memory.old }
+    ensures after { memory.new ≡ with_ask_seen ask.now memory.old }
     ensures says { result ≡ Stepped.Went }
 {
     if memory.met < 16 {

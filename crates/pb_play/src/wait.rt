@@ -1,9 +1,9 @@
 //! The steps of a client on words, until it has a reply or the turn.
 ghost use Rattle.std.specs.Prelude.{◌≡◌, ◌≢◌, ◌↔◌, ◌%◌, ◌<◌, IsTrue};
-ghost use Rattle.pb_core.specs.Memory.{round_of_turn, side_of};
+ghost use Rattle.pb_core.specs.Memory.{round_of_turn, side_of_operation};
 ghost use Rattle.pb_round_play.specs.Seats.{row_by};
-ghost use Rattle.pb_play.specs.Seats.{goes_to, seat_of, stores, op_with, announces, is_answered, begins_asking, takes, first_work};
-ghost use Rattle.pb_play.specs.Steps.{StepsWord, StepsWaiting};
+ghost use Rattle.pb_play.specs.Seats.{goes_to, seat_of, stores, op_with_word, announces, is_answered, begins_asking, takes, first_work};
+ghost use Rattle.pb_play.specs.Steps.{MakesWordStep, StepsWaiting};
 
 use crate::memory::Memory;
 use crate::work::{Knowledge, Owner, Part, Work};
@@ -50,7 +50,7 @@ pub fn wait(memory: &mut Memory, client: u32) -> Stepped
 fn look(memory: &mut Memory, client: u32) -> Stepped
     requires there { client < 16 }
     requires at { (seat_of memory.old client).stage ≡ Stage.Looking }
-    ensures { StepsWord memory.old client memory.new result }
+    ensures { MakesWordStep memory.old client memory.new result }
 {
     let turn = memory.turn;
     go_to(memory, client, Stage::LoadsNumber { turn })
@@ -60,7 +60,7 @@ fn look(memory: &mut Memory, client: u32) -> Stepped
 fn load_code(memory: &mut Memory, client: u32, turn: u64) -> Stepped
     requires there { client < 16 }
     requires at { (seat_of memory.old client).stage ≡ Stage.LoadsCode turn }
-    ensures { StepsWord memory.old client memory.new result }
+    ensures { MakesWordStep memory.old client memory.new result }
 {
     let code = row(memory, client, turn).reply.code;
     go_to(memory, client, Stage::LoadsValue { turn, code })
@@ -70,7 +70,7 @@ fn load_code(memory: &mut Memory, client: u32, turn: u64) -> Stepped
 fn load_value(memory: &mut Memory, client: u32, turn: u64, code: u64) -> Stepped
     requires there { client < 16 }
     requires at { (seat_of memory.old client).stage ≡ Stage.LoadsValue turn code }
-    ensures { StepsWord memory.old client memory.new result }
+    ensures { MakesWordStep memory.old client memory.new result }
 {
     let value = row(memory, client, turn).reply.value;
     go_to(memory, client, Stage::LoadsExtra { turn, code, value })
@@ -80,7 +80,7 @@ fn load_value(memory: &mut Memory, client: u32, turn: u64, code: u64) -> Stepped
 fn load_extra(memory: &mut Memory, client: u32, turn: u64, code: u64, value: u64) -> Stepped
     requires there { client < 16 }
     requires at { (seat_of memory.old client).stage ≡ Stage.LoadsExtra turn code value }
-    ensures { StepsWord memory.old client memory.new result }
+    ensures { MakesWordStep memory.old client memory.new result }
 {
     let extra = row(memory, client, turn).reply.extra;
     let reply = Reply { code, value, extra };
@@ -110,7 +110,7 @@ pub fn go_to(memory: &mut Memory, client: u32, stage: Stage) -> Stepped
 fn store_word(memory: &mut Memory, client: u32, count: u32) -> Stepped
     requires there { client < 16 }
     requires at { (seat_of memory.old client).stage ≡ Stage.Storing count }
-    ensures { StepsWord memory.old client memory.new result }
+    ensures { MakesWordStep memory.old client memory.new result }
 {
     if count < 4 {
         store_operation(memory, client, count)
@@ -137,7 +137,7 @@ fn store_operation(memory: &mut Memory, client: u32, count: u32) -> Stepped
 // An operation with a word of another.
 fn with_word(op: Op, place: u32, from: &Op) -> Op
     requires { place < 4 }
-    ensures { result ≡ op_with place from.now op }
+    ensures { result ≡ op_with_word place from.now op }
 {
     match place {
         0 => Op {
@@ -168,7 +168,7 @@ fn announce(memory: &mut Memory, client: u32) -> Stepped
 fn load_number(memory: &mut Memory, client: u32, turn: u64) -> Stepped
     requires there { client < 16 }
     requires at { (seat_of memory.old client).stage ≡ Stage.LoadsNumber turn }
-    ensures { StepsWord memory.old client memory.new result }
+    ensures { MakesWordStep memory.old client memory.new result }
 {
     let found = row(memory, client, turn).number;
     if found == memory.seats[client as usize].ask.number {
@@ -184,7 +184,7 @@ fn load_number(memory: &mut Memory, client: u32, turn: u64) -> Stepped
 fn confirm(memory: &mut Memory, client: u32, turn: u64, reply: Reply) -> Stepped
     requires there { client < 16 }
     requires at { (seat_of memory.old client).stage ≡ Stage.Confirming turn reply }
-    ensures { StepsWord memory.old client memory.new result }
+    ensures { MakesWordStep memory.old client memory.new result }
 {
     if is_past(memory, turn) {
         return try_again(memory, client, turn);
@@ -218,7 +218,7 @@ pub fn answer(memory: &mut Memory, client: u32)
 fn lack(memory: &mut Memory, client: u32, turn: u64, found: u64) -> Stepped
     requires there { client < 16 }
     requires at { (seat_of memory.old client).stage ≡ Stage.Lacking turn found }
-    ensures { StepsWord memory.old client memory.new result }
+    ensures { MakesWordStep memory.old client memory.new result }
 {
     let _ = found;
     try_again(memory, client, turn)
@@ -244,7 +244,7 @@ fn try_again(memory: &mut Memory, client: u32, turn: u64) -> Stepped
 fn take_turn(memory: &mut Memory, client: u32, turn: u64, found: u64) -> Stepped
     requires there { client < 16 }
     requires at { (seat_of memory.old client).stage ≡ Stage.Taking turn found }
-    ensures { StepsWord memory.old client memory.new result }
+    ensures { MakesWordStep memory.old client memory.new result }
 {
     let _ = found;
     if memory.turn != turn {
@@ -286,7 +286,7 @@ fn first_work(knowledge: Knowledge) -> Work
 
 /// The side of an operation, 0 for what is none.
 pub fn side_of(op: &Op) -> u32
-    ensures { result ≡ side_of op.now }
+    ensures { result ≡ side_of_operation op.now }
 {
     match Action::from_code(op.code) {
         Some(action) => action.side(),

@@ -9,7 +9,7 @@ use Rattle.pb_object.specs.declared.request.Ask.{Ask}
 use Rattle.pb_object.specs.declared.request.TheConstants.{KEPT_REQUESTS}
 use Rattle.pb_object.specs.History.{Entry}
 use Rattle.pb_object.specs.Object.{State, next_state}
-use Rattle.pb_layout.specs.NextRecord.{HasEntry, IsOfOther}
+use Rattle.pb_layout.specs.NextRecord.{HasEntryInFront, IsOfOther}
 use Rattle.pb_layout.specs.Record.{slot_line_at}
 use Rattle.pb_engine.specs.Asks.{AskersRise, answered_by, answered_from, state_from}
 use Rattle.pb_engine.specs.Next.{KeepsBefore}
@@ -50,7 +50,7 @@ slot_before : (first : ℕ) (old new : List Line) (client slot : ℕ) → KeepsB
 slot_before first old new client slot keeps room few = keeps.same (1 + (KEPT_REQUESTS * client + slot)) (omega arith)
 
 -- the slots of clients that lie before the line that is written keep their entries
-pub entries_before : (first : ℕ) (before old new : List Line) (entries : List Entry) → KeepsBefore first old new → All (λ (entry : Entry). 8 * entry.client + 8 < first) entries → All (HasEntry before old) entries → All (HasEntry before new) entries
+pub entries_before : (first : ℕ) (before old new : List Line) (entries : List Entry) → KeepsBefore first old new → All (λ (entry : Entry). 8 * entry.client + 8 < first) entries → All (HasEntryInFront before old) entries → All (HasEntryInFront before new) entries
 entries_before first before old new entries keeps room have k d inside =
     let entry = get_or entries k d in
     let has = have k d inside in

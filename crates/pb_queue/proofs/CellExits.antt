@@ -14,7 +14,7 @@ use Rattle.pb_object.specs.Standing.{Standing}
 use Rattle.pb_layout.specs.Cell.{cell_line_of}
 use Rattle.pb_layout.specs.Exits.{IsExit}
 use Rattle.pb_layout.specs.InUse.{IsOutside}
-use Rattle.pb_layout.specs.PutCell.{IsFreePosition, HasCell}
+use Rattle.pb_layout.specs.PutCell.{IsFreePosition, HasCell, put_ops}
 use Rattle.pb_layout.specs.Ready.{IsReady}
 use Rattle.pb_layout.specs.Recovered.{Represents}
 use Rattle.pb_layout.specs.Region.{cell_place}
@@ -24,7 +24,7 @@ use Rattle.pb_layout.specs.declared.header.Header.{Header}
 use Rattle.pb_layout_laws.proofs.PutCells.{free_unused, put_cell_is_there, put_cells_stay}
 use Rattle.pb_layout_laws.proofs.ReadyWithOne.{only_member}
 use Rattle.pb_layout_laws.proofs.UnusedLines.{writing_unused, writing_unused_failing}
-use Rattle.pb_engine.specs.Operations.{put_ops, puts_from}
+use Rattle.pb_engine.specs.Operations.{puts_from}
 use Rattle.pb_queue.proofs.PutCells.{puts_from-none, puts_from-more}
 use Rattle.pb_queue.proofs.RingLemmas.{places_apart}
 

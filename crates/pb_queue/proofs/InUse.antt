@@ -12,10 +12,11 @@ use Rattle.pb_layout.specs.Region.{record_place}
 use Rattle.pb_layout.specs.Represents.{record_in_use}
 use Rattle.pb_layout.specs.Shape.{IsHeader}
 use Rattle.pb_layout.proofs.Untouched.{Spares}
-use Rattle.pb_pair.specs.View.{SideView, PairView, side_of, round_of}
+use Rattle.pb_pair.specs.View.{SideView, PairView, view_of_side, round_of_side}
 use Rattle.pb_pair.proofs.HeldRecords.{SparesRecords, none_spares}
 use Rattle.pb_pair.proofs.Pairs.{put_spares}
-use Rattle.pb_engine.specs.Operations.{put_ops, puts_from}
+use Rattle.pb_engine.specs.Operations.{puts_from}
+use Rattle.pb_layout.specs.PutCell.{put_ops}
 use Rattle.pb_engine.specs.View.{IsInUse}
 use Rattle.pb_engine.proofs.InUse.{HasInUse, stays_in_use}
 use Rattle.pb_queue.specs.Items.{ItemsView}
@@ -47,7 +48,7 @@ puts_spare head from (item ∷ items) valid queue side which here =
     subst (All Out) (sym (puts_from-more head from item items))
     (All-append Out (put_ops head from item) (puts_from head (suc from) items) (put_spares head from item valid queue side which here) (puts_spare head (suc from) items valid queue side which here))
 
-same_part : (from : ℕ) (put : List ℕ) (old new : PairView) (side : ℕ) → HavePut from put old new → side_of new side ≡ side_of old side
+same_part : (from : ℕ) (put : List ℕ) (old new : PairView) (side : ℕ) → HavePut from put old new → view_of_side new side ≡ view_of_side old side
 same_part from put old new zero cells = cells.first
 same_part from put old new (suc side) cells = cells.second
 
@@ -59,5 +60,5 @@ put_in_use from put old new side valid queue below cells held =
       round = ap (λ (p : SideView). p.round) part;
       lines = ap (λ (p : SideView). p.lines) part;
       now = cells.device.now;
-      spares = puts_spare old.head from put valid queue side (round_of old side % 2) (omega (arith, below, ap side_count queue));
+      spares = puts_spare old.head from put valid queue side (round_of_side old side % 2) (omega (arith, below, ap side_count queue));
     }) held

@@ -34,7 +34,7 @@ use Rattle.pb_pair.specs.declared.known.Known.TheVariants.{Failed}
 use Rattle.pb_pair.specs.Safe.{IsPairOf, IsStoreOf, StoreCovers}
 use Rattle.pb_pair.specs.Settle.{was_called}
 use Rattle.pb_pair.specs.Store.{stored_ops, staged_ops, stored_side, IsNext, IsStored, IsFailedStore}
-use Rattle.pb_pair.specs.View.{SideView, PairView, IsPair, at_side, side_of, round_of, lines_of, forgotten}
+use Rattle.pb_pair.specs.View.{SideView, PairView, IsPair, at_side, view_of_side, round_of_side, lines_of, forgotten}
 use Rattle.pb_pair.proofs.Safe.{stored_represents}
 use Rattle.pb_pair.proofs.Told.{told_after, if_some_mapped}
 use Rattle.pb_engine.specs.Asks.{MayBeServed, side_asked, state_from, asked_round}
@@ -68,7 +68,7 @@ cells_put pair before after = puts_from pair.head (tail_of before) (added_since 
 
 -- The pair with the cells says what the pair before says
 
-same_round : (pair between : PairView) (from : ℕ) (put : List ℕ) → HavePut from put pair between → (side : ℕ) → side_of between side ≡ side_of pair side
+same_round : (pair between : PairView) (from : ℕ) (put : List ℕ) → HavePut from put pair between → (side : ℕ) → view_of_side between side ≡ view_of_side pair side
 same_round pair between from put cells zero = cells.first
 same_round pair between from put cells (suc side) = cells.second
 
@@ -157,7 +157,7 @@ store_of pair between before after asks lines tale is told ready = record {
     here : side < 2
     here = side_here pair before after asks lines is.round
 
-    in_use : record_in_use (contents_of middle) between.head side (round_of between side) ≡ lines_of between side
+    in_use : record_in_use (contents_of middle) between.head side (round_of_side between side) ≡ lines_of between side
     in_use = (is.cells.sound.records middle left.told).in_use side (omega (arith, here, ap side_count queue))
 
     held : record_of_side (contents_of middle) s side ≡ lines_of pair side
@@ -170,11 +170,11 @@ cell_ops_are : (pair : PairView) (before after : Waiting) (asks : List Ask) (lin
 cell_ops_are pair before after asks lines is =
     ap (cell_ops (header_for (standing_of pair before)) (tail_of before)) (after_is pair before after asks lines is) ∙ sym (cells_for pair before after is.queue)
 
-known_is : (pair : PairView) (items : ItemsView) (asked : List Ask) (side : ℕ) → known_of (twin_view pair items asked) side ≡ known_records (side_of pair side)
+known_is : (pair : PairView) (items : ItemsView) (asked : List Ask) (side : ℕ) → known_of (twin_view pair items asked) side ≡ known_records (view_of_side pair side)
 known_is pair items asked zero = refl
 known_is pair items asked (suc side) = refl
 
-pub ops_of : (pair between : PairView) (items : ItemsView) (after : Waiting) (asks : List Ask) (lines : List Line) → IsCelled pair between items.sure after asks lines → prepared_ops (twin_view pair items []) (round_for pair items.sure asks) lines ≡ cells_put pair items.sure after ++ staged_ops between.head (side_asked asks) (side_of between (side_asked asks)) lines
+pub ops_of : (pair between : PairView) (items : ItemsView) (after : Waiting) (asks : List Ask) (lines : List Line) → IsCelled pair between items.sure after asks lines → prepared_ops (twin_view pair items []) (round_for pair items.sure asks) lines ≡ cells_put pair items.sure after ++ staged_ops between.head (side_asked asks) (view_of_side between (side_asked asks)) lines
 ops_of pair between items after asks lines is =
     (λ i. cell_ops_are pair items.sure after asks lines is.round i ++ stage_over (place i) (spare i) lines)
   where
@@ -187,29 +187,29 @@ ops_of pair between items after asks lines is =
     here : side < 2
     here = side_here pair items.sure after asks lines is.round
 
-    part : side_of between side ≡ side_of pair side
+    part : view_of_side between side ≡ view_of_side pair side
     part = same_round pair between (tail_of items.sure) (added_since items.sure after) is.cells side
 
-    place : spare_place (header_for s) side (rounds_of s side) ≡ spare_place between.head side (round_of between side)
+    place : spare_place (header_for s) side (rounds_of s side) ≡ spare_place between.head side (round_of_side between side)
     place =
         let head = is.cells.head ∙ head_is pair items.sure is.round.queue in
         let round = ap (λ (p : SideView). p.round) part ∙ rounds_are pair items.sure side here in
         λ i. spare_place (sym head i) side (sym round i)
 
-    spare : (known_of (twin_view pair items []) side).spare ≡ (side_of between side).spare
+    spare : (known_of (twin_view pair items []) side).spare ≡ (view_of_side between side).spare
     spare = ap (λ (k : KnownRecords). k.spare) (known_is pair items [] side) ∙ sym (ap (λ (p : SideView). p.spare) part)
 
-pub commits_of : (pair between : PairView) (items : ItemsView) (after : Waiting) (asks : List Ask) (lines : List Line) → IsCelled pair between items.sure after asks lines → committed_ops (twin_view pair items []) (round_for pair items.sure asks) ≡ commit_ops (side_asked asks) (round_of between (side_asked asks) + 1)
+pub commits_of : (pair between : PairView) (items : ItemsView) (after : Waiting) (asks : List Ask) (lines : List Line) → IsCelled pair between items.sure after asks lines → committed_ops (twin_view pair items []) (round_for pair items.sure asks) ≡ commit_ops (side_asked asks) (round_of_side between (side_asked asks) + 1)
 commits_of pair between items after asks lines is =
     let side = side_asked asks in
     let part = same_round pair between (tail_of items.sure) (added_since items.sure after) is.cells side in
     let round = ap (λ (p : SideView). p.round) part ∙ rounds_are pair items.sure side (side_here pair items.sure after asks lines is.round) in
     ap (λ (n : ℕ). commit_ops side (n + 1)) (sym round)
 
-engine_ops : (pair between : PairView) (items : ItemsView) (after : Waiting) (asks : List Ask) (lines : List Line) → IsCelled pair between items.sure after asks lines → round_ops (twin_view pair items []) (round_for pair items.sure asks) lines ≡ cells_put pair items.sure after ++ stored_ops between.head (side_asked asks) (side_of between (side_asked asks)) lines
+engine_ops : (pair between : PairView) (items : ItemsView) (after : Waiting) (asks : List Ask) (lines : List Line) → IsCelled pair between items.sure after asks lines → round_ops (twin_view pair items []) (round_for pair items.sure asks) lines ≡ cells_put pair items.sure after ++ stored_ops between.head (side_asked asks) (view_of_side between (side_asked asks)) lines
 engine_ops pair between items after asks lines is =
     (λ i. ops_of pair between items after asks lines is i ++ commits_of pair between items after asks lines is i)
-    ∙ append_assoc (cells_put pair items.sure after) (staged_ops between.head (side_asked asks) (side_of between (side_asked asks)) lines) (commit_ops (side_asked asks) (round_of between (side_asked asks) + 1))
+    ∙ append_assoc (cells_put pair items.sure after) (staged_ops between.head (side_asked asks) (view_of_side between (side_asked asks)) lines) (commit_ops (side_asked asks) (round_of_side between (side_asked asks) + 1))
 
 -- A round that was stored
 
@@ -360,7 +360,7 @@ made pair between new old items after asks lines is confirmed stored = record {
     cells = cells_put pair old.sure after
 
     stores : List LogOp
-    stores = stored_ops between.head side (side_of between side) lines
+    stores = stored_ops between.head side (view_of_side between side) lines
 
     same : standing_of between old.sure ≡ s
     same = same_standing pair between (tail_of old.sure) (added_since old.sure after) old.sure is.cells
@@ -371,7 +371,7 @@ made pair between new old items after asks lines is confirmed stored = record {
         ∙ (standing_moved between new old.sure after asks lines (round_between pair between old.sure after asks lines is) (stored_moves side between new lines here stored)
         ∙ ap (λ (t : Standing). after_round t (asked_round t asks)) same)
 
-    part : side_of between side ≡ side_of pair side
+    part : view_of_side between side ≡ view_of_side pair side
     part = same_round pair between (tail_of old.sure) (added_since old.sure after) is.cells side
 
     queue : between.head.kind ≡ Queue
@@ -382,13 +382,13 @@ made pair between new old items after asks lines is confirmed stored = record {
 
     -- the device's lines, whose record in use is the pair's once the cells are there
     IsHeld : List Line → Type 0
-    IsHeld image = (record_in_use (contents image cells) between.head side (round_of between side) ≡ lines_of between side) × (between.device.now ≡ Some (contents image cells))
+    IsHeld image = (record_in_use (contents image cells) between.head side (round_of_side between side) ≡ lines_of between side) × (between.device.now ≡ Some (contents image cells))
 
     held : (now : Option (List Line)) → pair.device.now ≡ now → HasInUse between side → IfSome now (λ ls. IsHeld ls)
     held None told used = tt
     held (Some image) told used =
         let now : between.device.now ≡ Some (contents image cells) = is.cells.device.now ∙ ap (option_map (after_ops cells)) told in
-        (subst (λ (o : Option (List Line)). IfSome o (λ ls. record_in_use ls between.head side (round_of between side) ≡ lines_of between side)) now used, now)
+        (subst (λ (o : Option (List Line)). IfSome o (λ ls. record_in_use ls between.head side (round_of_side between side) ≡ lines_of between side)) now used, now)
 
     next_pair : IsNext between side lines
     next_pair = store_next between old.sure after asks lines (round_between pair between old.sure after asks lines is)
@@ -571,12 +571,12 @@ failed_after pair new old items after asks lines fault is step ahead failed = re
     cells = cells_put pair old.sure after
 
     staged : List LogOp
-    staged = staged_ops between.head side (side_of between side) lines
+    staged = staged_ops between.head side (view_of_side between side) lines
 
     commits : List LogOp
-    commits = commit_ops side (round_of between side + 1)
+    commits = commit_ops side (round_of_side between side + 1)
 
-    stops : (b : Bool) → Stops (IsFailedStore between.head side (side_of between side) lines b) between.device new.device → Stops (IsFailedRoundOps (twin_view pair old []) (round_for pair old.sure asks) lines b) pair.device new.device
+    stops : (b : Bool) → Stops (IsFailedStore between.head side (view_of_side between side) lines b) between.device new.device → Stops (IsFailedRoundOps (twin_view pair old []) (round_for pair old.sure asks) lines b) pair.device new.device
     stops false cut =
         subst (λ (all : List LogOp). Stops (IsFailedPrefix all) pair.device new.device) (sym (ops_of pair between old after asks lines celled_is))
         (stops_late cells staged pair.device between.device new.device failed.cells.device cut)

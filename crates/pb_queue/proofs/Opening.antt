@@ -42,15 +42,15 @@ use Rattle.pb_pair.specs.Cells.{IsNothing}
 use Rattle.pb_pair.specs.Format.{AreFirst, IsFormatted, IsFormatRefusal}
 use Rattle.pb_pair.specs.Open.{IsOpened, HasFailedRead}
 use Rattle.pb_pair.specs.Safe.{FormatCovers, FailedFormatCovers}
-use Rattle.pb_pair.specs.View.{SideView, PairView, HasFailed, side_of, lines_of}
+use Rattle.pb_pair.specs.View.{SideView, PairView, HasFailed, view_of_side, lines_of}
 use Rattle.pb_pair.proofs.Opened.{told_both}
 use Rattle.pb_pair.proofs.Told.{told_length, if_some_mapped}
-use Rattle.pb_engine.specs.Opening.{IsFresh, IsFreshRefusal, IsAdopted, IsAdoptRefusal}
+use Rattle.pb_engine.specs.Opening.{IsFreshEngine, IsFreshRefusal, IsAdopted, IsAdoptRefusal}
 use Rattle.pb_engine.specs.Pairs.{is_sure, known_records}
 use Rattle.pb_engine.specs.View.{AreInUse}
 use Rattle.pb_engine.proofs.InUse.{written_in_use, opened_in_use}
 use Rattle.pb_queue.specs.Items.{ItemsView, none_waiting, empty_items}
-use Rattle.pb_queue.specs.Recovery.{Says, IsRecovered, IsRecoveryRefusal}
+use Rattle.pb_queue.specs.Recovery.{PassesAndSays, IsRecovered, IsRecoveryRefusal}
 use Rattle.pb_queue.specs.Standing.{standing_of}
 use Rattle.pb_queue.specs.View.{twin_view, IsTwin}
 use Rattle.pb_queue.proofs.InUse.{in_engine}
@@ -173,7 +173,7 @@ formatted_stands clients size lines image are long bare =
     only_member (after (format_ops (queue_header clients size) lines lines) image) (empty_for (queue_header clients size))
     (makes_a_region image [] (queue_header clients size) lines lines are.valid long (empty_records clients size lines are) (at_rest_is_ready image [] None (IsAtRest-none image) (subst (λ ls. ¬ HasRegion ls) (sym (contents-none image)) bare))).ready.holds
 
-pub fresh_is : (clients size : ℕ) (lines : List Line) (old : Device) (pair : PairView) (items : ItemsView) → HasFormatted clients size lines old pair items → FormatCovers (queue_header clients size) lines lines old pair.device → IsWhole old → IsFresh (queue_header clients size) old (twin_view pair items [])
+pub fresh_is : (clients size : ℕ) (lines : List Line) (old : Device) (pair : PairView) (items : ItemsView) → HasFormatted clients size lines old pair items → FormatCovers (queue_header clients size) lines lines old pair.device → IsWhole old → IsFreshEngine (queue_header clients size) old (twin_view pair items [])
 fresh_is clients size lines old pair items has safely whole = record {
   standing = ap (λ (v : ItemsView). standing_of pair v.sure) has.items_are ∙ standing_is pair (none_waiting 0) (empty_for (queue_header clients size)) (fresh_says clients size lines old pair items has);
   doubt = refl;
@@ -194,7 +194,7 @@ fresh_is clients size lines old pair items has safely whole = record {
     queue : pair.head.kind ≡ Queue
     queue = ap (λ (h : Header). h.kind) has.formatted.head
 
-    written : (side : ℕ) → (side_of pair side).written ≡ true
+    written : (side : ℕ) → (view_of_side pair side).written ≡ true
     written zero = ap (λ (part : SideView). part.written) has.formatted.first_side
     written (suc side) = ap (λ (part : SideView). part.written) has.formatted.second_side
 
@@ -244,7 +244,7 @@ adopted_twin pair items next opened queue is long = settled_twin pair items next
 pub adopted_is : (pair : PairView) (items : ItemsView) → IsOpened pair.device pair → pair.head.kind ≡ Queue → IsRecovered pair items → IsAdopted pair.device (twin_view pair items [])
 adopted_is pair items opened queue is = record {
   same = refl;
-  stands = told_both pair.device.now (λ (ls : List Line). length ls ≡ LINES) (Says (standing_of pair items.sure)) (λ (ls : List Line). Represents ls (standing_of pair items.sure))
+  stands = told_both pair.device.now (λ (ls : List Line). length ls ≡ LINES) (PassesAndSays (standing_of pair items.sure)) (λ (ls : List Line). Represents ls (standing_of pair items.sure))
       (λ image long says. record { whole = long; passes = says.passes; says = says.says }) opened.whole is.told;
   in_use = λ side below. in_engine pair items [] side queue below (opened_in_use pair side opened (omega (arith, below, ap side_count queue)));
   doubt = refl;

@@ -13,12 +13,12 @@ use Rattle.pb_object.specs.ObjectLines.{IsAllowedLine, LinesRepresent}
 use Rattle.pb_object.specs.Queue.{Waiting, tail_of}
 use Rattle.pb_object.specs.Standing.{Standing, rounds_of, side_count}
 use Rattle.pb_layout.specs.Header.{record_length, slot_count, word}
-use Rattle.pb_layout.specs.NextRecord.{HasEntry, IsOfOther, IsNextOf}
+use Rattle.pb_layout.specs.NextRecord.{HasEntryInFront, IsOfOther, IsNextOf}
 use Rattle.pb_layout.specs.Record.{count_line_of}
 use Rattle.pb_layout.specs.Represents.{header_for, object_parts, object_parts_by, with_record, AreRecords}
 use Rattle.pb_layout.specs.declared.header.Header.{Header}
 use Rattle.pb_layout_laws.proofs.Rounds.{next_side}
-use Rattle.pb_pair.specs.View.{PairView, IsPair, round_of, lines_of}
+use Rattle.pb_pair.specs.View.{PairView, IsPair, round_of_side, lines_of}
 use Rattle.pb_engine.specs.Asks.{MayBeServed, side_asked, answered_from, state_from, asked_round}
 use Rattle.pb_engine.specs.Next.{IsBegun, PutsEntries, KeepsBefore}
 use Rattle.pb_engine.proofs.Served.{state_after_entries, served_is_legal}
@@ -41,7 +41,7 @@ servable s asks lines may few long = record {
 }
 
 -- the rounds of a queue's pair
-pub rounds_are : (pair : PairView) (queue : Waiting) (side : ℕ) → side < 2 → round_of pair side ≡ rounds_of (standing_of pair queue) side
+pub rounds_are : (pair : PairView) (queue : Waiting) (side : ℕ) → side < 2 → round_of_side pair side ≡ rounds_of (standing_of pair queue) side
 rounds_are pair queue zero below = refl
 rounds_are pair queue (suc zero) below = refl
 rounds_are pair queue (suc (suc side)) below = absurd (omega arith)
@@ -150,7 +150,7 @@ pub record MayPrepare (pair : PairView) (old : ItemsView) (asks : List Ask) : Ty
   pub size : old.size ≡ pair.head.size
   pub may : MayBeServed (standing_of pair old.sure) asks
 
-pub prepared_is_next : (pair : PairView) (old new : ItemsView) (asks : List Ask) (begun served final : List Line) → MayPrepare pair old asks → HasServed (side_asked asks) asks old new → IsBounded new.size new.next → HasPrepared (lines_of pair (side_asked asks)) (round_of pair (side_asked asks) + 1) (answered_from (Waits old.size old.sure) asks) (count_of (side_asked asks) new.next) begun served final → IsNextOf (lines_of pair) (standing_of pair old.sure) (asked_round (standing_of pair old.sure) asks) final
+pub prepared_is_next : (pair : PairView) (old new : ItemsView) (asks : List Ask) (begun served final : List Line) → MayPrepare pair old asks → HasServed (side_asked asks) asks old new → IsBounded new.size new.next → HasPrepared (lines_of pair (side_asked asks)) (round_of_side pair (side_asked asks) + 1) (answered_from (Waits old.size old.sure) asks) (count_of (side_asked asks) new.next) begun served final → IsNextOf (lines_of pair) (standing_of pair old.sure) (asked_round (standing_of pair old.sure) asks) final
 prepared_is_next pair old new asks begun served final is has bounded made = record {
   legal = served_is_legal s asks is.may;
   long = final_long ∙ sym record_is;
@@ -198,8 +198,8 @@ prepared_is_next pair old new asks begun served final is has bounded made = reco
     final_long : length final ≡ 1 + slot_count pair.head + 1
     final_long = made.keeps.long ∙ served_long
 
-    each : All (HasEntry (lines_of pair side) served) entries
-    each = subst (All (HasEntry (lines_of pair side) served)) entries_are made.puts.each
+    each : All (HasEntryInFront (lines_of pair side) served) entries
+    each = subst (All (HasEntryInFront (lines_of pair side) served)) entries_are made.puts.each
 
     room : All (λ (entry : Entry). 8 * entry.client + 8 < length served - 1) entries
     room = clients_of_answers (λ client. 8 * client + 8 < length served - 1) s.state asks (λ k d inside. omega (arith, (is.may.next k d inside).client, served_long))

@@ -10,7 +10,8 @@ use Rattle.pb_layout.specs.declared.header.Header.{Header}
 use Rattle.pb_pair.specs.declared.known.Known.TheVariants.{Sure}
 use Rattle.pb_pair.specs.Cells.{IsFree, HasPut}
 use Rattle.pb_pair.specs.View.{SideView, PairView, IsPair, HasFailed, forgotten}
-use Rattle.pb_engine.specs.Operations.{put_ops, puts_from}
+use Rattle.pb_engine.specs.Operations.{puts_from}
+use Rattle.pb_layout.specs.PutCell.{put_ops}
 use Rattle.pb_object.specs.Queue.{tail_of}
 use Rattle.pb_queue.specs.Items.{ItemsView}
 use Rattle.pb_queue.specs.Rounds.{added, HavePut, HasFailedAmongCells}

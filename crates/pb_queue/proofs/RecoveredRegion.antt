@@ -23,10 +23,10 @@ use Rattle.pb_layout.proofs.OneRecovery.{length-listed, get_or-listed}
 use Rattle.pb_pair.specs.declared.why.Why.{Why}
 use Rattle.pb_pair.specs.declared.why.Why.TheVariants.{Memory, Device as DeviceWhy, Taken, NoRegion, Damaged}
 use Rattle.pb_pair.specs.Open.{IsReadFrom, IsOpened}
-use Rattle.pb_pair.specs.View.{PairView, IsPair, at_side, round_of, lines_of}
+use Rattle.pb_pair.specs.View.{PairView, IsPair, at_side, round_of_side, lines_of}
 use Rattle.pb_pair.proofs.Opened.{told_weaker, told_both}
 use Rattle.pb_queue.specs.Items.{ItemsView, empty_items}
-use Rattle.pb_queue.specs.Recovery.{count_lines, AreCounts, AreQueueRecords, place_of_record, IsBadRecordLine, HasReadCells, IsCellOf, HasBadCell, IsCellRefusal, Says, IsRecovered, IsRecoveryRefusal}
+use Rattle.pb_queue.specs.Recovery.{count_lines, AreCounts, AreQueueRecords, place_of_record, IsBadRecordLine, HasReadCells, IsCellOf, HasBadCell, IsCellRefusal, PassesAndSays, IsRecovered, IsRecoveryRefusal}
 use Rattle.pb_queue.specs.Standing.{standing_of}
 use Rattle.pb_queue.proofs.QueueRecords.{counted_in, count_lines_are}
 
@@ -76,8 +76,8 @@ records_stand pair queue kind sound good taken tail = record {
     head = λ i. record { kind = kind i; clients = pair.head.clients; size = pair.head.size }
 
     own : (side : ℕ) → side < 2 → IsRecord (header_for (standing_of pair queue)) side (rounds_of (standing_of pair queue) side) (lines_of pair side)
-    own zero below = subst (λ (h : Header). IsRecord h 0 (round_of pair 0) (lines_of pair 0)) head (sound.sides 0 (omega (arith, ap side_count kind))).own
-    own (suc zero) below = subst (λ (h : Header). IsRecord h 1 (round_of pair 1) (lines_of pair 1)) head (sound.sides 1 (omega (arith, ap side_count kind))).own
+    own zero below = subst (λ (h : Header). IsRecord h 0 (round_of_side pair 0) (lines_of pair 0)) head (sound.sides 0 (omega (arith, ap side_count kind))).own
+    own (suc zero) below = subst (λ (h : Header). IsRecord h 1 (round_of_side pair 1) (lines_of pair 1)) head (sound.sides 1 (omega (arith, ap side_count kind))).own
     own (suc (suc side)) below = absurd (omega arith)
 
 -- What the device's lines say of themselves
@@ -199,7 +199,7 @@ items_say image head size taken count queue same long cells =
     sym (ap (λ (n : ℕ). word (line_at image (cell_place head (n + place))) 1) (sym same) ∙ ap (λ (l : Line). word l 1) (cells place (omega (arith, long)))))
 
 -- so they say the standing that has these items
-pub region_says : (pair : PairView) (image : List Line) (queue : Waiting) → IsReadQueue pair image → AreQueueRecords pair → queue.taken ≡ word (counted_in pair 1) 0 → tail_of queue ≡ word (counted_in pair 0) 0 → CellsRepresent image pair.head (Waits pair.head.size queue) → Says (standing_of pair queue) image
+pub region_says : (pair : PairView) (image : List Line) (queue : Waiting) → IsReadQueue pair image → AreQueueRecords pair → queue.taken ≡ word (counted_in pair 1) 0 → tail_of queue ≡ word (counted_in pair 0) 0 → CellsRepresent image pair.head (Waits pair.head.size queue) → PassesAndSays (standing_of pair queue) image
 unfolding standing_in state_by listed
 region_says pair image queue is good taken tail cells = record {
   passes = all_pass (opening_checks image) (state_checks image) is.read.passes (objects_pass pair image is good.counts, (apart_passes pair image is good.apart, (cells_pass, tt)));
@@ -215,13 +215,13 @@ region_says pair image queue is good taken tail cells = record {
     kind : Queue ≡ (header_in image).kind
     kind = sym (read_kind pair image is)
 
-    both : round_of pair 0 ∷ round_of pair 1 ∷ [] ≡ round_in image 0 ∷ round_in image 1 ∷ []
+    both : round_of_side pair 0 ∷ round_of_side pair 1 ∷ [] ≡ round_in image 0 ∷ round_in image 1 ∷ []
     both =
         let first = is.read.rounds 0 (omega (arith, ap side_count is.queue)) in
         let second = is.read.rounds 1 (omega (arith, ap side_count is.queue)) in
         λ i. first i ∷ second i ∷ []
 
-    rounds : round_of pair 0 ∷ round_of pair 1 ∷ [] ≡ listed (side_count (header_in image).kind) (round_in image)
+    rounds : round_of_side pair 0 ∷ round_of_side pair 1 ∷ [] ≡ listed (side_count (header_in image).kind) (round_in image)
     rounds = both ∙ ap (λ (k : Kind). listed (side_count k) (round_in image)) kind
 
     kept : (client : ℕ) → kept_list_by Queue (lines_of pair) client ≡ kept_list (header_in image) (record_in image) client
@@ -277,7 +277,7 @@ recovered_is pair tail start items final queue opened good empty tail_is have co
       size = have.size ∙ ap (λ (v : ItemsView). v.size) empty;
       sure = refl;
       records = records_stand pair items.next queue opened.sound good taken last;
-      told = told_both pair.device.now (IsReadFrom pair) (λ image. CellsRepresent image pair.head (Waits pair.head.size items.next)) (Says (standing_of pair items.next))
+      told = told_both pair.device.now (IsReadFrom pair) (λ image. CellsRepresent image pair.head (Waits pair.head.size items.next)) (PassesAndSays (standing_of pair items.next))
           (λ image is cells. region_says pair image items.next (record { queue = queue; sound = opened.sound; read = is }) good taken last cells) opened.read have.cells;
     })
   where

@@ -7,7 +7,7 @@ use Rattle.std.proofs.lemmas.Bool.Decides.{nat_tests}
 use Rattle.pb_object.specs.declared.codes.Answer.TheVariants.{Full, Worn, At, Item, Empty}
 use Rattle.pb_object.specs.Queue.{Waiting, last_position, tail_of, take_reply, after_take, put_reply, after_put}
 use Rattle.pb_object.specs.Request.{reply}
-use Rattle.pb_queue.specs.Items.{none_waiting, with_item, item_at, items_from, waiting_in}
+use Rattle.pb_queue.specs.Items.{none_waiting, with_item, item_at, items_from, waiting_between}
 
 pub items_from-none : (places : List ℕ) (first : ℕ) → items_from places first 0 ≡ []
 unfolding items_from
@@ -78,18 +78,18 @@ items_from-set places position item first (suc count) apart =
 
 -- What waits in a ring
 
-pub tail_of-waiting_in : (places : List ℕ) (head tail : ℕ) → head ≤ tail → tail_of (waiting_in places head tail) ≡ tail
+pub tail_of-waiting_in : (places : List ℕ) (head tail : ℕ) → head ≤ tail → tail_of (waiting_between places head tail) ≡ tail
 tail_of-waiting_in places head tail fits = omega (arith, length-items_from places head (tail - head))
 
 -- nothing waits where all items were taken
-pub waiting_in-none : (places : List ℕ) (head : ℕ) → waiting_in places head head ≡ none_waiting head
+pub waiting_in-none : (places : List ℕ) (head : ℕ) → waiting_between places head head ≡ none_waiting head
 waiting_in-none places head =
     let none_left : head - head ≡ 0 = omega arith in
     let items : items_from places head (head - head) ≡ [] = ap (items_from places head) none_left ∙ items_from-none places head in
     λ i. record { taken = head; items = items i }
 
 -- the item at a position
-pub item_of-waiting_in : (places : List ℕ) (head tail position : ℕ) → head ≤ position → position < tail → slice_index (waiting_in places head tail).items (position - head) ≡ item_at places position
+pub item_of-waiting_in : (places : List ℕ) (head tail position : ℕ) → head ≤ position → position < tail → slice_index (waiting_between places head tail).items (position - head) ≡ item_at places position
 item_of-waiting_in places head tail position after before =
     let at : head + (position - head) ≡ position = omega arith in
     get_or-items_from places head (tail - head) (position - head) (omega arith) ∙ ap (item_at places) at
@@ -101,24 +101,24 @@ first_waits places head tail some =
     let next : suc head ≡ head + 1 = omega arith in
     ap (items_from places head) count ∙ (items_from-more places head (tail - (head + 1)) ∙ ap (λ (n : ℕ). item_at places head ∷ items_from places n (tail - (head + 1))) next)
 
-pub after_take-waiting_in : (places : List ℕ) (head tail : ℕ) → head < tail → waiting_in places (head + 1) tail ≡ after_take head (waiting_in places head tail).items
+pub after_take-waiting_in : (places : List ℕ) (head tail : ℕ) → head < tail → waiting_between places (head + 1) tail ≡ after_take head (waiting_between places head tail).items
 after_take-waiting_in places head tail some = sym (ap (after_take head) (first_waits places head tail some))
 
-pub take_reply-waiting_in : (places : List ℕ) (head tail : ℕ) → head < tail → take_reply head (waiting_in places head tail).items ≡ reply Item (item_at places head) head
+pub take_reply-waiting_in : (places : List ℕ) (head tail : ℕ) → head < tail → take_reply head (waiting_between places head tail).items ≡ reply Item (item_at places head) head
 take_reply-waiting_in places head tail some = ap (take_reply head) (first_waits places head tail some)
 
-pub after_take-none : (places : List ℕ) (head tail : ℕ) → head ≡ tail → waiting_in places head tail ≡ after_take head (waiting_in places head tail).items
+pub after_take-none : (places : List ℕ) (head tail : ℕ) → head ≡ tail → waiting_between places head tail ≡ after_take head (waiting_between places head tail).items
 after_take-none places head tail same =
     let none = waiting_in-none places head in
-    let here : waiting_in places head tail ≡ none_waiting head = sym (ap (waiting_in places head) same) ∙ none in
+    let here : waiting_between places head tail ≡ none_waiting head = sym (ap (waiting_between places head) same) ∙ none in
     here ∙ sym (ap (λ (queue : Waiting). after_take head queue.items) here)
 
-pub take_reply-none : (places : List ℕ) (head tail : ℕ) → head ≡ tail → take_reply head (waiting_in places head tail).items ≡ reply Empty 0 0
+pub take_reply-none : (places : List ℕ) (head tail : ℕ) → head ≡ tail → take_reply head (waiting_between places head tail).items ≡ reply Empty 0 0
 take_reply-none places head tail same =
-    ap (λ (queue : Waiting). take_reply head queue.items) (sym (ap (waiting_in places head) same) ∙ waiting_in-none places head)
+    ap (λ (queue : Waiting). take_reply head queue.items) (sym (ap (waiting_between places head) same) ∙ waiting_in-none places head)
 
 -- one more item is put at the tail
-pub waiting_in-set : (places : List ℕ) (head tail item : ℕ) → 1 ≤ length places → head ≤ tail → tail < head + length places → waiting_in (set places (tail % length places) item) head (tail + 1) ≡ with_item (waiting_in places head tail) item
+pub waiting_in-set : (places : List ℕ) (head tail item : ℕ) → 1 ≤ length places → head ≤ tail → tail < head + length places → waiting_between (set places (tail % length places) item) head (tail + 1) ≡ with_item (waiting_between places head tail) item
 waiting_in-set places head tail item some fits room =
     let count : tail + 1 - head ≡ suc (tail - head) = omega arith in
     let at : head + (tail - head) ≡ tail = omega arith in
@@ -129,7 +129,7 @@ waiting_in-set places head tail item some fits room =
     λ i. record { taken = head; items = items i }
 
 -- and what waits before it is as it was
-pub waiting_in-set_after : (places : List ℕ) (head tail at item : ℕ) → tail ≤ at → at < head + length places → waiting_in (set places (at % length places) item) head tail ≡ waiting_in places head tail
+pub waiting_in-set_after : (places : List ℕ) (head tail at item : ℕ) → tail ≤ at → at < head + length places → waiting_between (set places (at % length places) item) head tail ≡ waiting_between places head tail
 waiting_in-set_after places head tail at item fits room =
     let items = items_from-set places at item head (tail - head) (λ k inside e. places_apart (length places) at (head + k) (omega arith) (omega arith) (sym e)) in
     λ i. record { taken = head; items = items i }

@@ -4,7 +4,7 @@ use Rattle.std.proofs.lemmas.List.{length-set, length-replicate}
 use Rattle.pb_object.specs.declared.codes.Answer.TheVariants.{Full, Worn, At, Item, Empty}
 use Rattle.pb_object.specs.Queue.{Waiting, last_position, tail_of, take_reply, after_take, put_reply, after_put}
 use Rattle.pb_object.specs.Request.{reply}
-use Rattle.pb_queue.specs.Items.{ItemsView, IsBounded, empty_items, with_item, item_at, waiting_in, ring_view, ArePositions}
+use Rattle.pb_queue.specs.Items.{ItemsView, IsBounded, empty_items, with_item, item_at, waiting_between, ring_view, ArePositions}
 use Rattle.pb_queue.proofs.RingLemmas.{tail_of-waiting_in, waiting_in-none, item_of-waiting_in, length-items_from, after_take-waiting_in, take_reply-waiting_in, after_take-none, take_reply-none, waiting_in-set, waiting_in-set_after, put_full, put_worn, put_at}
 
 -- a ring in hand: its places and positions, and what they show
@@ -61,7 +61,7 @@ append_shown places head tail next_head next_tail item shown is kept room =
     let long = length-set places (next_tail % length places) item in
     let sure = waiting_in-set_after places head tail next_tail item at.put (omega (arith, below, same)) in
     let next = waiting_in-set places next_head next_tail item at.least at.next below in
-    let path : ring_view (set places (next_tail % length places) item) head tail next_head (next_tail + 1) ≡ record (ring_view places head tail next_head next_tail) { next = with_item (waiting_in places next_head next_tail) item } = λ i. record { size = long i; sure = sure i; next = next i } in
+    let path : ring_view (set places (next_tail % length places) item) head tail next_head (next_tail + 1) ≡ record (ring_view places head tail next_head next_tail) { next = with_item (waiting_between places next_head next_tail) item } = λ i. record { size = long i; sure = sure i; next = next i } in
     path ∙ ap (λ (v : ItemsView). (let more : ItemsView = record v { next = with_item v.next item } in more)) is.shows
 
 pub append_positions : (places : List ℕ) (head tail next_head next_tail item : ℕ) (shown : ItemsView) → IsRing places head tail next_head next_tail shown → shown.next.taken ≡ shown.sure.taken → length shown.next.items < shown.size → tail_of shown.next < last_position → ArePositions (length (set places (next_tail % length places) item)) head tail next_head (next_tail + 1)

@@ -17,7 +17,7 @@ use Rattle.pb_object.specs.Standing.{Standing, side_count, rounds_of}
 use Rattle.pb_layout.specs.declared.header.Header.{Header}
 use Rattle.pb_layout.specs.Cell.{cell_line_of}
 use Rattle.pb_layout.specs.Header.{record_length, slot_count}
-use Rattle.pb_layout.specs.NextRecord.{HasEntry, IsNextOf, IsNextRecord, next_position, HasCells}
+use Rattle.pb_layout.specs.NextRecord.{HasEntryInFront, IsNextOf, IsNextRecord, next_position, HasCells}
 use Rattle.pb_layout.specs.PutCell.{HasCell, HaveCells}
 use Rattle.pb_layout.specs.Record.{slot_line_at, IsRecord}
 use Rattle.pb_layout.specs.Recovered.{Represents}
@@ -28,9 +28,9 @@ use Rattle.pb_layout_laws.proofs.NextRecord.{next_own, next_records}
 use Rattle.pb_layout_laws.proofs.PutCells.{cells_of_a_round}
 use Rattle.pb_layout_laws.proofs.Rounds.{next_header, next_round_list}
 use Rattle.pb_pair.specs.declared.known.Known.TheVariants.{Sure}
-use Rattle.pb_pair.specs.Cells.{tail_in, taken_in, IsFree}
+use Rattle.pb_pair.specs.Cells.{tail_in, taken_by_records, IsFree}
 use Rattle.pb_pair.specs.Store.{IsNext}
-use Rattle.pb_pair.specs.View.{PairView, IsPair, at_side, round_of, lines_of}
+use Rattle.pb_pair.specs.View.{PairView, IsPair, at_side, round_of_side, lines_of}
 use Rattle.pb_engine.specs.Asks.{MayBeServed, side_asked, state_from, asked_round}
 use Rattle.pb_engine.specs.Operations.{puts_from}
 use Rattle.pb_engine.proofs.Served.{state_after_entries}
@@ -69,7 +69,7 @@ pub store_next : (pair : PairView) (before after : Waiting) (asks : List Ask) (l
 store_next pair before after asks lines is = record {
   here = omega (arith, side_here pair before after asks lines is, ap side_count is.queue);
   long = is.next.long ∙ ap record_length (sym head);
-  own = subst (λ (h : Header). IsRecord h side (round_of pair side + 1) lines) (sym head)
+  own = subst (λ (h : Header). IsRecord h side (round_of_side pair side + 1) lines) (sym head)
       (subst (λ (n : ℕ). IsRecord (header_for s) side (n + 1) lines) (sym (rounds_are pair before side (side_here pair before after asks lines is))) (next_own (lines_of pair) s (round_for pair before asks) lines is.records is.next));
 }
   where
@@ -133,7 +133,7 @@ is_free pair side before after position queue sure records step from below = rec
     tail : tail_in pair ≡ tail_of before
     tail = ap (λ (h : Header). word_of (object_parts h (lines_of pair)) 0 0) head ∙ sym records.state.hold.0
 
-    taken : taken_in pair ≡ before.taken
+    taken : taken_by_records pair ≡ before.taken
     taken = ap (λ (h : Header). word_of (object_parts h (lines_of pair)) 1 0) head ∙ sym records.state.hold.1
 
 -- The record in a region
@@ -180,7 +180,7 @@ next_in pair before after asks lines image is step stands held = record {
   legal = is.next.legal;
   long = is.next.long;
   carries = is.next.carries;
-  entries = subst (λ (ls : List Line). All (HasEntry ls lines) (round_for pair before asks).entries) (sym held) is.next.entries;
+  entries = subst (λ (ls : List Line). All (HasEntryInFront ls lines) (round_for pair before asks).entries) (sym held) is.next.entries;
   others = λ client slot inside below others. is.next.others client slot inside below others ∙ ap (λ (ls : List Line). slot_line_at ls client slot) (sym held);
   state = subst (LinesRepresent (object_parts_by Queue (header_for s) (with_record (record_of_side image s) side lines))) (sym same)
       (next_stands_along (header_for s) side before after (lines_of pair) (record_of_side image s) lines step.here pair_long image_long is.next.long step.moves step.bounded
@@ -207,7 +207,7 @@ next_in pair before after asks lines image is step stands held = record {
     image_long x below = length-record_at image (header_for s) x (rounds_of s x % 2) stands.whole region.valid below (parity-lt (rounds_of s x))
 
 -- a side's record in use, in the words of the standing
-pub held_is : (pair : PairView) (queue : Waiting) (image : List Line) (side : ℕ) → pair.head.kind ≡ Queue → side < 2 → record_in_use image pair.head side (round_of pair side) ≡ lines_of pair side → record_of_side image (standing_of pair queue) side ≡ lines_of pair side
+pub held_is : (pair : PairView) (queue : Waiting) (image : List Line) (side : ℕ) → pair.head.kind ≡ Queue → side < 2 → record_in_use image pair.head side (round_of_side pair side) ≡ lines_of pair side → record_of_side image (standing_of pair queue) side ≡ lines_of pair side
 held_is pair queue image side kind below held =
     let head = head_is pair queue kind in
     let round = rounds_are pair queue side below in
@@ -256,8 +256,8 @@ have_cells base log pair before after asks lines is step long =
 -- a pair of which a side has this record in use, which is its next one
 pub record HasMoved (side : ℕ) (lines : List Line) (old new : PairView) : Type 0 where
   pub head : new.head ≡ old.head
-  pub first_round : round_of new 0 ≡ at_side (round_of old 0 + 1) (round_of old 0) side
-  pub second_round : round_of new 1 ≡ at_side (round_of old 1) (round_of old 1 + 1) side
+  pub first_round : round_of_side new 0 ≡ at_side (round_of_side old 0 + 1) (round_of_side old 0) side
+  pub second_round : round_of_side new 1 ≡ at_side (round_of_side old 1) (round_of_side old 1 + 1) side
   pub first_lines : lines_of new 0 ≡ at_side lines (lines_of old 0) side
   pub second_lines : lines_of new 1 ≡ at_side (lines_of old 1) lines side
 
@@ -280,7 +280,7 @@ says_after : (old new : PairView) (before after : Waiting) (asks : List Ask) (li
 says_after old new before after asks lines is moved = record {
   kind = ap (λ (h : Header). h.kind) header;
   head = moved.head ∙ (head_is old before is.queue ∙ sym header);
-  rounds = (λ i. moved.first_round i ∷ moved.second_round i ∷ []) ∙ (rounds_set side (round_of old 0) (round_of old 1) here ∙ sym (next_round_list s round));
+  rounds = (λ i. moved.first_round i ∷ moved.second_round i ∷ []) ∙ (rounds_set side (round_of_side old 0) (round_of_side old 1) here ∙ sym (next_round_list s round));
   state = ap (λ (h : Header). Waits h.size after) moved.head ∙ sym (after_is old before after asks lines is);
   records = records_along (with_record (lines_of old) side lines) (lines_of new) (after_round s round) same (next_records (lines_of old) s round lines is.records is.next);
 }

@@ -30,7 +30,7 @@ use Rattle.pb_layout_laws.proofs.Settling.{settling_leaves_one}
 use Rattle.pb_pair.specs.declared.known.Known.TheVariants.{Sure}
 use Rattle.pb_pair.specs.Safe.{IsPairOf, IsDoubtOf, SettleCovers, FailedSettleCovers}
 use Rattle.pb_pair.specs.Settle.{was_called, settled_side, settled_by, settled_ops, IsSettled}
-use Rattle.pb_pair.specs.View.{SideView, DoubtView, PairView, side_of, lines_of, forgotten, HasFailed}
+use Rattle.pb_pair.specs.View.{SideView, DoubtView, PairView, view_of_side, lines_of, forgotten, HasFailed}
 use Rattle.pb_pair.proofs.Safe.{not_called, settles_found, settles_after}
 use Rattle.pb_pair.proofs.Told.{if_some_mapped}
 use Rattle.pb_engine.specs.Asks.{MayBeServed, side_asked, state_from, asked_round}
@@ -156,7 +156,7 @@ found old new items final next asked is uncalled settled reverted = record {
     ops : settled_ops old ≡ settle_to (header_for (standing_of new final.sure)) (standing_of new final.sure)
     ops = settles_found old s (pair_of old items.sure is.is.queue) uncalled ∙ ap (λ (t : Standing). settle_to (header_for t) t) (sym same)
 
-    part : (side : ℕ) → side_of new side ≡ forgotten (side_of old side)
+    part : (side : ℕ) → view_of_side new side ≡ forgotten (view_of_side old side)
     part zero = stays.first
     part (suc side) = stays.second
 

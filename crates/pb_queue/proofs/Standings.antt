@@ -16,7 +16,7 @@ use Rattle.pb_layout.specs.Represents.{header_for, kept_list_by, AreRecords}
 use Rattle.pb_layout.proofs.ChangedRegion.{object_parts-same, kept_list-same, apart-same}
 use Rattle.pb_layout.proofs.OneRecovery.{length-listed, get_or-listed}
 use Rattle.pb_pair.specs.Safe.{IsPairOf}
-use Rattle.pb_pair.specs.View.{PairView, round_of, lines_of}
+use Rattle.pb_pair.specs.View.{PairView, round_of_side, lines_of}
 use Rattle.pb_queue.specs.Standing.{standing_of}
 
 -- records that are the same on the sides that there are
@@ -40,7 +40,7 @@ head_is pair queue kind = λ i. record { kind = kind i; clients = pair.head.clie
 pub pair_of : (pair : PairView) (queue : Waiting) → pair.head.kind ≡ Queue → IsPairOf pair (standing_of pair queue)
 pair_of pair queue kind = record { head = head_is pair queue kind; rounds = rounds }
   where
-    rounds : (side : ℕ) → side < 2 → round_of pair side ≡ rounds_of (standing_of pair queue) side
+    rounds : (side : ℕ) → side < 2 → round_of_side pair side ≡ rounds_of (standing_of pair queue) side
     rounds zero below = refl
     rounds (suc zero) below = refl
     rounds (suc (suc side)) below = absurd (omega arith)
@@ -49,7 +49,7 @@ pair_of pair queue kind = record { head = head_is pair queue kind; rounds = roun
 pub record SaysStanding (pair : PairView) (queue : Waiting) (t : Standing) : Type 0 where
   pub kind : t.kind ≡ Queue
   pub head : pair.head ≡ header_for t
-  pub rounds : round_of pair 0 ∷ round_of pair 1 ∷ [] ≡ t.rounds
+  pub rounds : round_of_side pair 0 ∷ round_of_side pair 1 ∷ [] ≡ t.rounds
   pub state : Waits pair.head.size queue ≡ t.state
   pub records : AreRecords (lines_of pair) t
 

@@ -43,15 +43,15 @@ items_from places first zero = []
 items_from places first (suc count) = item_at places first ∷ items_from places (suc first) count
 
 -- what waits from the position of the first item to that of the next one that is put
-abbrev pub waiting_in : List ℕ → ℕ → ℕ → Waiting
-waiting_in places head tail = record { taken = head; items = items_from places head (tail - head) }
+abbrev pub waiting_between : List ℕ → ℕ → ℕ → Waiting
+waiting_between places head tail = record { taken = head; items = items_from places head (tail - head) }
 
 -- what a ring holds, by the positions of the first item that waits and of the next one that is put, for sure and after what was applied
 abbrev pub ring_view : List ℕ → ℕ → ℕ → ℕ → ℕ → ItemsView
 ring_view places head tail next_head next_tail = record {
   size = length places;
-  sure = waiting_in places head tail;
-  next = waiting_in places next_head next_tail;
+  sure = waiting_between places head tail;
+  next = waiting_between places next_head next_tail;
 }
 
 -- positions that a ring of a size can hold: the items that wait for sure and those that wait after what was applied have places of their own

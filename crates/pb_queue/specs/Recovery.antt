@@ -19,7 +19,7 @@ use Rattle.pb_layout.specs.declared.header.Header.{Header}
 use Rattle.pb_pair.specs.declared.why.Why.{Why}
 use Rattle.pb_pair.specs.declared.why.Why.TheVariants.{Memory, Device as DeviceWhy, Taken, NoRegion, Damaged}
 use Rattle.pb_pair.specs.Cells.{IsNothing}
-use Rattle.pb_pair.specs.View.{PairView, HasFailed, round_of, lines_of}
+use Rattle.pb_pair.specs.View.{PairView, HasFailed, round_of_side, lines_of}
 use Rattle.pb_queue.specs.Items.{ItemsView}
 use Rattle.pb_queue.specs.Standing.{standing_of}
 
@@ -38,7 +38,7 @@ pub record AreQueueRecords (pair : PairView) : Type 0 where
 
 -- the line of the device at which a side's record in use begins
 abbrev pub place_of_record : PairView → ℕ → ℕ
-place_of_record pair side = record_place pair.head side (round_of pair side % 2)
+place_of_record pair side = record_place pair.head side (round_of_side pair side % 2)
 
 -- the line of a side's count is the first one that the format refuses of the two
 pub record HasBadCount (pair : PairView) (line : ℕ) : Type 0 where
@@ -92,7 +92,7 @@ IsCellRefusal taken tail old new NoRegion = ⊥
 IsCellRefusal taken tail old new (Damaged line) = (new ≡ old) × IfSome old.device.now (HasBadCell old.head taken (tail - taken) line)
 
 -- the lines pass all checks of a region and say this standing: whole lines represent it
-pub record Says (s : Standing) (image : List Line) : Type 0 where
+pub record PassesAndSays (s : Standing) (image : List Line) : Type 0 where
   pub passes : AllPass (region_checks image)
   pub says : s ≡ standing_in image
 
@@ -101,7 +101,7 @@ pub record IsRecovered (pair : PairView) (items : ItemsView) : Type 0 where
   pub size : items.size ≡ pair.head.size
   pub sure : items.next ≡ items.sure
   pub records : AreRecords (lines_of pair) (standing_of pair items.sure)
-  pub told : IfSome pair.device.now (Says (standing_of pair items.sure))
+  pub told : IfSome pair.device.now (PassesAndSays (standing_of pair items.sure))
 
 -- why there are none, and what became of the pair: the first line of the region that is refused, or a read that failed
 abbrev pub IsRecoveryRefusal : PairView → PairView → Why → Type 0

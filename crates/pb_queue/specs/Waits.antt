@@ -11,8 +11,8 @@ waiting_of (Rising size items) = empty_queue
 waiting_of (Waits size queue) = queue
 
 -- the position of the first item that waits
-abbrev pub taken_in : State → ℕ
-taken_in state = (waiting_of state).taken
+abbrev pub taken_in_state : State → ℕ
+taken_in_state state = (waiting_of state).taken
 
 -- the position of the next item that is put
 abbrev pub tail_in : State → ℕ

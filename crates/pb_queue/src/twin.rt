@@ -48,11 +48,11 @@ impl<P: Pmem> Model for TwinQueue<P> {
 impl<P: Pmem> TwinQueue<P> {
     ghost use Rattle.std.specs.Prelude.{◌≡◌, ◌-◌, ◌<◌, ◌≤◌, IfOk, IfErr, slice_index};
     ghost use Rattle.pb_pair.specs.Open.{IsOpened};
-    ghost use Rattle.pb_engine.specs.Opening.{IsFresh, IsFreshRefusal, IsAdopted, IsAdoptRefusal};
+    ghost use Rattle.pb_engine.specs.Opening.{IsFreshEngine, IsFreshRefusal, IsAdopted, IsAdoptRefusal};
     ghost use Rattle.pb_object.specs.Standing.{rounds_of};
     ghost use Rattle.pb_layout.specs.declared.header.Header.{Header};
     ghost use Rattle.pb_layout.specs.Represents.{header_for};
-    ghost use Rattle.pb_queue.specs.Waits.{taken_in, tail_in, items_in};
+    ghost use Rattle.pb_queue.specs.Waits.{taken_in_state, tail_in, items_in};
 
     /// Makes a region on a device that has none, in which nothing was asked yet. The engine is sure.
     ///
@@ -70,7 +70,7 @@ impl<P: Pmem> TwinQueue<P> {
         requires some_size { 1 ≤ size }
         requires small_size { size ≤ MOST_SIZE }
         ensures ok { let head : Header = record { kind = Queue; clients = clients; size = size } in
-            IfOk result (IsFresh head (P.seen device)) }
+            IfOk result (IsFreshEngine head (P.seen device)) }
         ensures err { let head : Header = record { kind = Queue; clients = clients; size = size } in
             IfErr result (λ refused. IsFreshRefusal head (P.seen device) (P.seen refused.device) refused.why) }
     {
@@ -141,7 +141,7 @@ impl<P: Pmem> TwinQueue<P> {
     /// The position of the first item that waits, as the engine last knew it for sure: so many were
     /// taken.
     pub fn head(&self) -> u64
-        ensures { result ≡ taken_in self.now.standing.state }
+        ensures { result ≡ taken_in_state self.now.standing.state }
     {
         self.items.head()
     }
@@ -156,9 +156,9 @@ impl<P: Pmem> TwinQueue<P> {
 
     /// The item that waits at a position, as the engine last knew it for sure.
     pub fn item(&self, position: u64) -> u64
-        requires after { taken_in self.now.standing.state ≤ position }
+        requires after { taken_in_state self.now.standing.state ≤ position }
         requires before { position < tail_in self.now.standing.state }
-        ensures { result ≡ slice_index (items_in self.now.standing.state) (position - taken_in self.now.standing.state) }
+        ensures { result ≡ slice_index (items_in self.now.standing.state) (position - taken_in_state self.now.standing.state) }
     {
         self.items.item(position)
     }

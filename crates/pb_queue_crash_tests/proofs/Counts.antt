@@ -6,7 +6,7 @@ use Rattle.pb_pmem.specs.Lines.{line_at, word_of, zero_line}
 use Rattle.pb_layout.specs.declared.header.Header.{Header}
 use Rattle.pb_layout.specs.Represents.{object_parts}
 use Rattle.pb_pair.specs.declared.known.Known.TheVariants.{Sure}
-use Rattle.pb_pair.specs.Cells.{tail_in, taken_in, IsFree}
+use Rattle.pb_pair.specs.Cells.{tail_in, taken_by_records, IsFree}
 use Rattle.pb_pair.specs.View.{PairView, lines_of}
 use Rattle.pb_object.specs.declared.kind.Kind.TheVariants.{Queue}
 
@@ -34,7 +34,7 @@ pub free_is : (pair : PairView) (position : ℕ) → pair.head ≡ queue_head �
 free_is pair position head sure long after room =
     let tail : tail_in pair ≡ word_of (lines_of pair 0) 17 0 =
     ap (λ (h : Header). word_of (object_parts h (lines_of pair)) 0 0) head ∙ tail_is (lines_of pair 0) (lines_of pair 1) long in
-    let taken : taken_in pair ≡ word_of (lines_of pair 1) 17 0 =
+    let taken : taken_by_records pair ≡ word_of (lines_of pair 1) 17 0 =
     ap (λ (h : Header). word_of (object_parts h (lines_of pair)) 1 0) head ∙ taken_is (lines_of pair 0) (lines_of pair 1) long in
     let size : pair.head.size ≡ 2 = ap (λ (h : Header). h.size) head in
     record {

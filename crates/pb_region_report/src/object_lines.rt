@@ -1,7 +1,7 @@
 //! The lines of objects.
 ghost use Rattle.std.specs.Prelude.{◌≡◌, ◌+◌, ◌<◌, ◌≤◌, ◌^◌, ◌++◌, [], ◌∷◌, codes, count_by, length, slice_index};
 ghost use Rattle.pb_object.specs.Map.{register_at};
-ghost use Rattle.pb_queue.specs.Waits.{items_in, tail_in, taken_in, waiting_of};
+ghost use Rattle.pb_queue.specs.Waits.{items_in, tail_in, taken_in_state, waiting_of};
 ghost use Rattle.pb_report.specs.Pieces.{numbered};
 ghost use Rattle.pb_region_report.specs.ReportText.{is_written, register_line};
 
@@ -135,7 +135,7 @@ pub struct WaitingLines<'a, P: Pmem> {
     pub queue: &'a TwinQueue<P>,
     pub head: u64,
     pub tail: u64,
-    ghost from_head: { head ≡ taken_in queue.now.standing.state },
+    ghost from_head: { head ≡ taken_in_state queue.now.standing.state },
     ghost to_tail: { tail ≡ tail_in queue.now.standing.state },
 }
 

@@ -36,11 +36,11 @@ answer_line (Busy ask from to) = ask_text ask ++ (values_text (codes "busy") fro
 answer_line (Fault ask from to) = ask_text ask ++ (values_text (codes "fault") from to ++ codes "\n")
 answer_line Impossible = []
 
-abbrev pub line_of : List Stepped → ℕ → List ℕ
-line_of answers place = answer_line (slice_index_or answers place Went)
+abbrev pub answer_line_at : List Stepped → ℕ → List ℕ
+answer_line_at answers place = answer_line (slice_index_or answers place Went)
 
 abbrev pub answers_text : List Stepped → List ℕ
-answers_text answers = joined (line_of answers) (length answers)
+answers_text answers = joined (answer_line_at answers) (length answers)
 
 -- the text of a replay: a line for each answer that a client is given, and the report of the standing that is left
 abbrev pub replay_text : List Stepped → Standing → List ℕ

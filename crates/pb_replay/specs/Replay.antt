@@ -6,7 +6,7 @@ use Rattle.pb_layout.specs.declared.header.Header.{Header}
 use Rattle.pb_layout.specs.Recovered.{Represents}
 use Rattle.pb_events.specs.declared.event.Event.{Event}
 use Rattle.pb_events.specs.declared.event.Stepped.{Stepped}
-use Rattle.pb_core.specs.Fresh.{IsFresh}
+use Rattle.pb_core.specs.Fresh.{IsFreshWorld}
 use Rattle.pb_core.specs.Play.{Play}
 use Rattle.pb_core.specs.Possible.{IsPossible}
 use Rattle.pb_core.specs.World.{World}
@@ -30,7 +30,7 @@ events_of (repeat ∷ repeats) = replicate repeat.times repeat.event ++ events_o
 -- these events were played one after the other in a world over a region that was just formatted, with these answers
 pub record AreMade (head : Header) (events : List Event) (answers : List Stepped) (last : World) : Type 0 where
   pub first : World
-  pub fresh : IsFresh head first
+  pub fresh : IsFreshWorld head first
   pub play : Play first events answers last
 
 -- a source is the schedule of events that were played, with these answers, and the device is left with this standing

@@ -16,11 +16,11 @@ pub struct AnswerLines<'a> {
 
 impl Lines for AnswerLines<'_> {
     ghost use Rattle.std.specs.Prelude.{length};
-    ghost use Rattle.pb_replay.specs.AnswerText.{line_of};
+    ghost use Rattle.pb_replay.specs.AnswerText.{answer_line_at};
 
     ghost line_count = { λ lines. length lines.answers.now };
 
-    ghost line_at = { λ lines. line_of lines.answers.now };
+    ghost line_at = { λ lines. answer_line_at lines.answers.now };
 
     fn count(&self) -> usize {
         self.answers.len()

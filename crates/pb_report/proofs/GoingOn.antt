@@ -9,7 +9,9 @@ use Rattle.pb_object.specs.Standing.{newest}
 use Rattle.pb_report.specs.declared.outcome.Outcome.{Outcome}
 use Rattle.pb_report.specs.declared.outcome.Outcome.TheVariants.{New, Kept, Old, Gap, Changed, Doubt, Left}
 use Rattle.pb_report.specs.GoingOn.{is_ending, has_ended, kept_next, kept_after}
-use Rattle.pb_report.specs.Outcomes.{AreLeft, AreLines, GoesOn, IsLine, HasEntry, decided_outcome, entry_of, is_same_op, kept_with, outcome_by}
+use Rattle.pb_report.specs.Outcomes.{AreLeft, AreLines, GoesOn, IsLine, HasEntry, decided_outcome, entry_of, outcome_by}
+use Rattle.pb_object.specs.KeptLists.{kept_with}
+use Rattle.pb_object.specs.Request.{is_same_op}
 
 abbrev pub Line : Type 0
 Line = Ask × Outcome

@@ -1,21 +1,16 @@
 -- What becomes of a script's requests: the outcome of each, by what was kept of its client and by the history of the run.
-use Rattle.std.specs.Prelude.{◌≡◌, ℕ, ◌+◌, Bool, true, false, List, [], ◌∷◌, Option, Some, None, if◌then◌else◌, ◌==◌, ◌&&◌, nat_le, find, filter, length, Contains}
+use Rattle.std.specs.Prelude.{◌≡◌, ℕ, ◌+◌, Bool, true, false, List, [], ◌∷◌, Option, Some, None, if◌then◌else◌, ◌==◌, nat_le, filter, length, Contains}
 use Rattle.std.specs.List.{zip, All}
 use Rattle.pb_object.specs.declared.request.Ask.{Ask}
-use Rattle.pb_object.specs.declared.request.Op.{Op}
+
 use Rattle.pb_object.specs.declared.request.Reply.{Reply}
 use Rattle.pb_object.specs.declared.request.Kept.{Kept as KeptRequest}
 use Rattle.pb_object.specs.History.{Entry, Round, History, kept_by}
 use Rattle.pb_object.specs.Standing.{Standing, keep, kept_list_of, newest}
 use Rattle.pb_report.specs.declared.outcome.Outcome.{Outcome}
 use Rattle.pb_report.specs.declared.outcome.Outcome.TheVariants.{New, Kept, Old, Gap, Changed, Doubt, Left}
-
-abbrev pub is_same_op : Op → Op → Bool
-is_same_op first second = first.code == second.code && first.a == second.a && first.b == second.b && first.c == second.c
-
--- the one of these kept requests that has this number, if there is one
-abbrev pub kept_with : ℕ → List KeptRequest → Option KeptRequest
-kept_with number kept = find (λ one. one.number == number) kept
+use Rattle.pb_object.specs.KeptLists.{kept_with}
+use Rattle.pb_object.specs.Request.{is_same_op}
 
 -- a request whose number is kept gets the kept reply, if it asks for the same operation. An earlier number that isn't kept is old,
 -- and one after the next leaves a gap. Nothing is said of the next request here

@@ -21,7 +21,8 @@ use Rattle.pb_layout.specs.Header.{word}
 use Rattle.pb_layout.specs.Region.{cell_place}
 use Rattle.pb_layout.specs.Shape.{IsHeader}
 use Rattle.pb_layout_laws.proofs.Geometry.{cell_offset}
-use Rattle.pb_engine.specs.Operations.{put_ops, puts_from}
+use Rattle.pb_engine.specs.Operations.{puts_from}
+use Rattle.pb_layout.specs.PutCell.{put_ops}
 use Rattle.pb_queue.specs.Items.{with_item}
 use Rattle.pb_queue.specs.Rounds.{added_since}
 use Rattle.pb_queue.proofs.PutCells.{puts_from-none, puts_from-more, puts_from-append}

@@ -9,10 +9,10 @@ abbrev pub counted : ℕ → ℕ
 counted count = min (count + 1) last_count
 
 -- one more round of a side
-abbrev pub with_round : ℕ → Rounds → Rounds
-with_round zero rounds = record rounds { first = counted rounds.first }
-with_round (suc zero) rounds = record rounds { second = counted rounds.second }
-with_round (suc (suc more)) rounds = rounds
+abbrev pub with_side_counted : ℕ → Rounds → Rounds
+with_side_counted zero rounds = record rounds { first = counted rounds.first }
+with_side_counted (suc zero) rounds = record rounds { second = counted rounds.second }
+with_side_counted (suc (suc more)) rounds = rounds
 
 -- how many rounds of each side there are
 pub record ShowsRounds (s : Standing) (rounds : Rounds) : Type 0 where

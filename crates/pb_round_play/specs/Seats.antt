@@ -2,7 +2,7 @@
 use Rattle.std.specs.Prelude.{ℕ, zero, suc, List, slice_index_or}
 use Rattle.pb_object.specs.declared.request.Kept.{Kept}
 use Rattle.pb_object.specs.Request.{no_op, no_reply}
-use Rattle.pb_core.specs.Client.{no_ask}
+use Rattle.pb_core.specs.Client.{no_request}
 use Rattle.pb_round_play.specs.declared.seat.Row.{Row}
 use Rattle.pb_round_play.specs.declared.seat.Seat.{Seat}
 use Rattle.pb_round_play.specs.declared.seat.Stage.TheVariants.{Idle}
@@ -11,7 +11,7 @@ abbrev pub no_row : Row
 no_row = record { number = 0; reply = no_reply }
 
 abbrev pub no_seat : Seat
-no_seat = record { stage = Idle; ask = no_ask; last = 0; number = 0; op = no_op; even = no_row; odd = no_row; ahead = no_row }
+no_seat = record { stage = Idle; ask = no_request; last = 0; number = 0; op = no_op; even = no_row; odd = no_row; ahead = no_row }
 
 abbrev pub seat_at : List Seat → ℕ → Seat
 seat_at seats client = slice_index_or seats client no_seat
@@ -22,7 +22,7 @@ row_of_kept kept = record { number = kept.number; reply = kept.reply }
 
 -- a client that has asked for nothing since
 abbrev pub fresh_seat : Row → Seat
-fresh_seat row = record { stage = Idle; ask = no_ask; last = row.number; number = 0; op = no_op; even = row; odd = row; ahead = row }
+fresh_seat row = record { stage = Idle; ask = no_request; last = row.number; number = 0; op = no_op; even = row; odd = row; ahead = row }
 
 -- a client's row, and the words of one
 abbrev pub row_by : Seat → ℕ → Row

@@ -9,7 +9,7 @@ ghost use Rattle.pb_object.specs.Queue.{Waiting, queue_reply, next_waiting, put_
 ghost use Rattle.pb_layout.specs.Header.{record_length};
 ghost use Rattle.pb_layout.specs.Represents.{record_in_use};
 ghost use Rattle.pb_object.specs.declared.kind.Kind.TheVariants.{Queue};
-ghost use Rattle.pb_engine.specs.Operations.{put_ops};
+ghost use Rattle.pb_layout.specs.PutCell.{put_ops};
 ghost use Rattle.pb_queue.specs.Serving.{AreServable};
 ghost use Rattle.pb_round_play.specs.Serving.{HoldsQueue, IsServing, HasServedQueue};
 ghost use Rattle.pb_round_play.specs.Shape.{AreWithin};

@@ -9,7 +9,7 @@ pub struct Rounds {
 }
 
 impl Rounds {
-    ghost use Rattle.pb_round_play.specs.Counts.{with_round};
+    ghost use Rattle.pb_round_play.specs.Counts.{with_side_counted};
 
     /// How many of a side.
     pub fn of(&self, side: u32) -> u64
@@ -20,7 +20,7 @@ impl Rounds {
 
     /// With one more of a side.
     pub fn with(self, side: u32) -> Self
-        ensures { result ≡ with_round side self }
+        ensures { result ≡ with_side_counted side self }
     {
         match side {
             0 => Rounds {

@@ -14,10 +14,10 @@ use Rattle.pb_core.specs.MemoryRun.{asked as asked_move, stepped}
 use Rattle.pb_core.specs.WordMoves.{go_to, asks, steps_to, with_request_word, storing, announcing}
 use Rattle.pb_core.proofs.Basics.{with_at-same, with_at-twice}
 use Rattle.pb_engine.specs.View.{EngineView}
-use Rattle.pb_rule.specs.Asked.{IsNextOf}
+use Rattle.pb_rule.specs.Asked.{IsNextRequestOf}
 use Rattle.pb_rule.specs.View.{PassView}
 use Rattle.pb_rule.specs.Plays.{Seated, the_view, IsPlain, with_view, asked, stored, announced, next_stored}
-use Rattle.pb_rule.specs.Rule.{request_place, HasWords, IsViewOf, HasRun, Keeps}
+use Rattle.pb_rule.specs.Rule.{request_place, HasWords, IsViewOf, HasCoreRun, Keeps}
 use Rattle.pb_rule.proofs.Known.{start_kind}
 use Rattle.pb_rule.proofs.MadeRounds.{begins_asking, stays_open}
 use Rattle.pb_rule.proofs.Movers.{own_view, running, client_moves}
@@ -30,11 +30,11 @@ abbrev asking : Ask → Client → Client
 asking ask b = record b { stage = Storing 1; ask = ask; after = b.front }
 
 -- asking and storing the code word are two moves
-asks_and_stores : {start : EngineView} (m : Memory) (ask : Ask) → (run : HasRun start m) → HasRun start (asks ask.client ask m)
-    → (((asks ask.client ask m).book ask.client).stage ≡ Storing 0 → HasRun start (record (steps_to ask.client (Storing 1) (asks ask.client ask m)) { requests = with_request_word ask.client 1 (ask_word ((asks ask.client ask m).book ask.client).ask 1) m.requests }))
-    → HasRun start (record (with_client ask.client (asking ask (m.book ask.client)) m) { requests = with_request_word ask.client 1 ask.op.code m.requests })
+asks_and_stores : {start : EngineView} (m : Memory) (ask : Ask) → (run : HasCoreRun start m) → HasCoreRun start (asks ask.client ask m)
+    → (((asks ask.client ask m).book ask.client).stage ≡ Storing 0 → HasCoreRun start (record (steps_to ask.client (Storing 1) (asks ask.client ask m)) { requests = with_request_word ask.client 1 (ask_word ((asks ask.client ask m).book ask.client).ask 1) m.requests }))
+    → HasCoreRun start (record (with_client ask.client (asking ask (m.book ask.client)) m) { requests = with_request_word ask.client 1 ask.op.code m.requests })
 asks_and_stores {start} m ask run first second =
-    subst (HasRun start) (sym whole) (second (ap (λ (b : Client). b.stage) here))
+    subst (HasCoreRun start) (sym whole) (second (ap (λ (b : Client). b.stage) here))
   where
     c : ℕ
     c = ask.client
@@ -56,14 +56,14 @@ module _ {X : Type 0} (seen : X → EngineView) (kind : Kind) (start : EngineVie
   abbrev Rule : State (Option X) (List PassView) → Type 0
   Rule = Keeps seen kind start
 
-  pub stores_code : (slots id word : ℕ) (me : Seated X) (ask : Ask) → word ≡ request_place ask.client 1 → IsPlain me → (the_view me).body.stage ≡ Idle → IsNextOf kind (the_view me) ask
+  pub stores_code : (slots id word : ℕ) (me : Seated X) (ask : Ask) → word ≡ request_place ask.client 1 → IsPlain me → (the_view me).body.stage ≡ Idle → IsNextRequestOf kind (the_view me) ask
       → Allows Rule slots id me word (λ _. ask.op.code) (λ _ new. new ≡ with_view (asked ask) me)
   stores_code slots id word me ask place plain stage next s r deep at small = (
     asked ask v ∷ [],
     keeps,
     tt,
     client_moves seen kind start r id v (asking ask v.body) v.notes (asking ask (r.m.book v.client)) (with_request_word v.client 1 ask.op.code r.m.requests) r.m.answers (set s.words word ask.op.code) here
-        (subst (λ (c : ℕ). HasRun start (record (with_client c (asking ask (r.m.book c)) r.m) { requests = with_request_word c 1 ask.op.code r.m.requests })) next.client run)
+        (subst (λ (c : ℕ). HasCoreRun start (record (with_client c (asking ask (r.m.book c)) r.m) { requests = with_request_word c 1 ask.op.code r.m.requests })) next.client run)
         (subst (λ (p : ℕ). HasWords (record r.m { requests = with_request_word v.client 1 ask.op.code r.m.requests }) (set s.words p ask.op.code)) (sym (place ∙ ap (λ (c : ℕ). request_place c 1) next.client)) (request_stored v.client 1 ask.op.code own.there (omega arith) r.words))
         (ap (asking ask) own.body) (ap is_holding stage) refl tt (begins_asking _ _ (ap (λ (b : Client). is_idle b.stage) (sym own.body) ∙ ap is_idle stage) refl),
     refl,
@@ -81,7 +81,7 @@ module _ {X : Type 0} (seen : X → EngineView) (kind : Kind) (start : EngineVie
       idle : (r.m.book ask.client).stage ≡ Idle
       idle = ap (λ (c : ℕ). (r.m.book c).stage) next.client ∙ (ap (λ (b : Client). b.stage) (sym own.body) ∙ stage)
 
-      first : HasRun start (asks ask.client ask r.m)
+      first : HasCoreRun start (asks ask.client ask r.m)
       first = moved_on r.run (asked_move ask (record {
         running = running seen kind start r;
         there = omega (arith, next.there, own.clients);
@@ -92,7 +92,7 @@ module _ {X : Type 0} (seen : X → EngineView) (kind : Kind) (start : EngineVie
         is = refl;
       }))
 
-      run : HasRun start (record (with_client ask.client (asking ask (r.m.book ask.client)) r.m) { requests = with_request_word ask.client 1 ask.op.code r.m.requests })
+      run : HasCoreRun start (record (with_client ask.client (asking ask (r.m.book ask.client)) r.m) { requests = with_request_word ask.client 1 ask.op.code r.m.requests })
       run = asks_and_stores r.m ask r.run first (λ now. moved_on first (stepped ask.client Went (record {
         running = running seen kind start r;
         there = omega (arith, next.there, own.clients);
@@ -129,8 +129,8 @@ module _ {X : Type 0} (seen : X → EngineView) (kind : Kind) (start : EngineVie
       words : HasWords (record r.m { requests = with_request_word (the_view me).client (suc place) value r.m.requests }) (set s.words word value)
       words = subst (λ (p : ℕ). HasWords (record r.m { requests = with_request_word v.client (suc place) value r.m.requests }) (set s.words p value)) (sym (word_is ∙ (λ i. request_place (client_is i) (more i)))) (request_stored v.client (suc place) value own.there (omega (arith, few)) r.words)
 
-      run : HasRun start (record (with_client (the_view me).client (go_to (Storing (suc place)) (r.m.book (the_view me).client)) r.m) { requests = with_request_word (the_view me).client (suc place) value r.m.requests })
-      run = subst (λ (n : ℕ). HasRun start (record (with_client v.client (go_to (Storing (suc place)) (r.m.book v.client)) r.m) { requests = with_request_word v.client (suc place) n r.m.requests })) (sym known)
+      run : HasCoreRun start (record (with_client (the_view me).client (go_to (Storing (suc place)) (r.m.book (the_view me).client)) r.m) { requests = with_request_word (the_view me).client (suc place) value r.m.requests })
+      run = subst (λ (n : ℕ). HasCoreRun start (record (with_client v.client (go_to (Storing (suc place)) (r.m.book v.client)) r.m) { requests = with_request_word v.client (suc place) n r.m.requests })) (sym known)
           (step_of seen kind start r v.client _ Went own.there (storing (record { place = place; few = few; at = ap (λ (b : Client). b.stage) (sym own.body) ∙ stage; is = refl; says = refl })))
 
   pub announces : (slots id word client number : ℕ) (me : Seated X) → word ≡ request_place client 0 → client ≡ (the_view me).client → IsPlain me → (the_view me).body.stage ≡ Storing 4 → number ≡ (the_view me).body.ask.number
@@ -159,12 +159,12 @@ module _ {X : Type 0} (seen : X → EngineView) (kind : Kind) (start : EngineVie
       words : HasWords (record r.m { requests = with_request_word (the_view me).client 0 number r.m.requests }) (set s.words word number)
       words = subst (λ (p : ℕ). HasWords (record r.m { requests = with_request_word v.client 0 number r.m.requests }) (set s.words p number)) (sym (word_is ∙ (λ i. request_place (client_is i) 0))) (request_stored v.client 0 number own.there (omega arith) r.words)
 
-      run : HasRun start (record (with_client (the_view me).client (go_to Looking (r.m.book (the_view me).client)) r.m) { requests = with_request_word (the_view me).client 0 number r.m.requests })
-      run = subst (λ (n : ℕ). HasRun start (record (with_client v.client (go_to Looking (r.m.book v.client)) r.m) { requests = with_request_word v.client 0 n r.m.requests })) (sym known)
+      run : HasCoreRun start (record (with_client (the_view me).client (go_to Looking (r.m.book (the_view me).client)) r.m) { requests = with_request_word (the_view me).client 0 number r.m.requests })
+      run = subst (λ (n : ℕ). HasCoreRun start (record (with_client v.client (go_to Looking (r.m.book v.client)) r.m) { requests = with_request_word v.client 0 n r.m.requests })) (sym known)
           (step_of seen kind start r v.client _ Went own.there (announcing (record { at = ap (λ (b : Client). b.stage) (sym own.body) ∙ stage; is = refl; says = refl })))
 
   -- the same, where the request is said
-  pub stores_code_as : (slots id word : ℕ) (me : Seated X) (ask said : Ask) → said ≡ ask → word ≡ request_place ask.client 1 → IsPlain me → (the_view me).body.stage ≡ Idle → IsNextOf kind (the_view me) ask
+  pub stores_code_as : (slots id word : ℕ) (me : Seated X) (ask said : Ask) → said ≡ ask → word ≡ request_place ask.client 1 → IsPlain me → (the_view me).body.stage ≡ Idle → IsNextRequestOf kind (the_view me) ask
       → Allows Rule slots id me word (λ _. ask.op.code) (λ _ new. new ≡ with_view (asked said) me)
   stores_code_as slots id word me ask said same place plain stage next =
       subst (λ (a : Ask). Allows Rule slots id me word (λ _. ask.op.code) (λ _ new. new ≡ with_view (asked a) me)) (sym same) (stores_code slots id word me ask place plain stage next)

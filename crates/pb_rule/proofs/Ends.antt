@@ -15,14 +15,14 @@ use Rattle.pb_core.proofs.Turns.{free_suits}
 use Rattle.pb_engine.specs.Calls.{progress_of, AreMadeFor}
 use Rattle.pb_engine.specs.View.{EngineView}
 use Rattle.pb_engine.specs.Good.{HasCome}
-use Rattle.pb_rule.specs.Opening.{IsThere, AreFree, AreEnded, OneOf, HasEnded}
+use Rattle.pb_rule.specs.Opening.{IsThere, AreNotHolding, AreEnded, OneOf, HasEnded}
 use Rattle.pb_rule.specs.View.{PassView}
-use Rattle.pb_rule.specs.Rule.{called_round, recorded_by, SuitsEngine, LiesAt, IsBelow, AreServed, Fault, AreApart, AreViews, Keeps, failed_calls, asked_by, failed_asks, AreNextAtSettling, HasAnswered, HasAnsweredOne, IsUnpublished, HasAskedFor, IsAskedFor, AreOfClients}
+use Rattle.pb_rule.specs.Rule.{called_round, recorded_by, SuitsEngine, LiesAt, IsBelow, AreServed, Fault, AreIntervalsApart, AreViews, Keeps, failed_calls, asked_by, failed_asks, AreNextAtSettling, HasAnswered, HasAnsweredOne, IsUnpublished, HasAskedFor, IsAskedFor, AreOfClients}
 use Rattle.pb_rule.proofs.Known.{started}
 use Rattle.pb_rule.proofs.MadeRounds.{not_resting, not_doubtful, none_unpublished}
 use Rattle.pb_rule.proofs.Movers.{is_memory}
 
-apart_wider : (low : ℕ) (faults : List Fault) (high more : ℕ) → high ≤ more → AreApart low faults high → AreApart low faults more
+apart_wider : (low : ℕ) (faults : List Fault) (high more : ℕ) → high ≤ more → AreIntervalsApart low faults high → AreIntervalsApart low faults more
 apart_wider low [] high more wide apart = omega (arith, apart, wide)
 apart_wider low (fault ∷ faults) high more wide apart =
     (apart.0, apart.1, apart_wider fault.met.to faults high more wide apart.2)
@@ -32,7 +32,7 @@ module _ {X : Type 0} (seen : X → EngineView) (kind : Kind) (start : EngineVie
   Rule = Keeps seen kind start
 
   -- a client whose view is there and free doesn't hold the turn
-  is_free : {s : State (Option X) (List PassView)} (r : Rule s) (seat client : ℕ) (views : List PassView) → AreViews r.m r.engine r.faults r.place seat views → AreFree views → IsThere client views → is_holding (r.m.book client).stage ≡ false
+  is_free : {s : State (Option X) (List PassView)} (r : Rule s) (seat client : ℕ) (views : List PassView) → AreViews r.m r.engine r.faults r.place seat views → AreNotHolding views → IsThere client views → is_holding (r.m.book client).stage ≡ false
   is_free r seat client [] are free there = absurd there
   is_free r seat client (v ∷ views) are free (inl here) =
       ap (λ (c : ℕ). is_holding (r.m.book c).stage) (sym here) ∙ (ap (λ (b : Client). is_holding b.stage) (sym are.0.body) ∙ free.0)
@@ -76,7 +76,7 @@ module _ {X : Type 0} (seen : X → EngineView) (kind : Kind) (start : EngineVie
       absurd (subst (λ (o : Owner). LiesAt seen o r.engine s.homes) is r.lies)
 
   -- so all came to this
-  pub ends : (seat slots : ℕ) (views : List PassView) (words : List ℕ) (homes : List (Option X)) (x : Option X) → ((d : ℕ) → d < start.standing.clients → IsThere d views) → AreFree views → Final (Seen Rule seat views) words homes → get_elem? homes 0 ≡ some x
+  pub ends : (seat slots : ℕ) (views : List PassView) (words : List ℕ) (homes : List (Option X)) (x : Option X) → ((d : ℕ) → d < start.standing.clients → IsThere d views) → AreNotHolding views → Final (Seen Rule seat views) words homes → get_elem? homes 0 ≡ some x
       → (value : X) × (x ≡ Some value) × HasEnded kind start (seen value) views
   ends seat slots views words homes x all free final at = (
     lying.0,

@@ -15,10 +15,10 @@ use Rattle.pb_core.specs.Client.{Client, is_idle, is_announced, row_word}
 use Rattle.pb_core.specs.HolderMoves.{round_by, Begins}
 use Rattle.pb_core.specs.Laws.{AreDue}
 use Rattle.pb_object.specs.History.{Round}
-use Rattle.pb_core.specs.Memory.{Owner, Held, Part, AtNumber, AtCode, AtFirst, AtSecond, AtThird, Work, Scanning, Calling, Filling, Noting, GivingUp, Engine, Writing, Memory, clients_of, shown, known, side_of}
+use Rattle.pb_core.specs.Memory.{Owner, Held, Part, AtNumber, AtCode, AtFirst, AtSecond, AtThird, Work, Scanning, Calling, Filling, Noting, GivingUp, Engine, Writing, Memory, clients_of, shown, known_standing, side_of_operation}
 use Rattle.pb_core.specs.MemoryParts.{IsMemory, HasCause, AreSeen, Meets}
 use Rattle.pb_core.specs.MemoryRun.{stepped as stepped_move}
-use Rattle.pb_core.specs.WordMoves.{IsRunning, WordMove, scanned, with_row_word, next_row, passing_over, meeting, scanning_code, scanning_first, scanning_second, scanning_own, scanning_other, filling, noting}
+use Rattle.pb_core.specs.WordMoves.{IsNotReopening, WordMove, scanned, with_row_word, next_row, passing_over, meeting, scanning_code, scanning_first, scanning_second, scanning_own, scanning_other, filling, noting}
 use Rattle.pb_core.proofs.Holding.{begins_due, begins_own}
 use Rattle.pb_core.proofs.Scans.{the_scan, known_shown}
 use Rattle.pb_core.proofs.Turns.{the_holder}
@@ -28,9 +28,9 @@ use Rattle.pb_engine.specs.View.{EngineView}
 use Rattle.pb_engine.specs.Good.{HasCome}
 use Rattle.pb_rule.specs.View.{Look, Met, OwnRound, PassView}
 use Rattle.pb_rule.specs.Holding.{part_place, IsScanPlace, notes_now}
-use Rattle.pb_rule.specs.Plays.{Seated, the_view, HoldsSlot, engine_before, engine_now, scanning_now, filling_now, kept_number, ask_of, seen_with, part_found, scan_found, looked_by, scanned_on, AsksFor, ScanIsOver, scan_step, next_filled, own_by, filled_on, fill_step, noted, note_step}
+use Rattle.pb_rule.specs.Plays.{Seated, the_view, HoldsSlot, engine_before, engine_now, scanning_now, filling_now, kept_number, ask_with, seen_with, part_found, scan_found, looked_by, scanned_on, AsksFor, ScanIsOver, scan_step, next_filled, own_by, filled_on, fill_step, noted, note_step}
 use Rattle.pb_rule.specs.Ready.{Ready, IsReadyFor}
-use Rattle.pb_rule.specs.Rule.{request_place, row_place, HasWords, IsTied, LiesAt, IsOwn, IsViewOf, Fault, AreApart, met_if, met_by, HasRun, Keeps, failed_calls, fault_asks, asked_by, failed_asks, AreNextAtSettling, recorded_by, AreOfClients}
+use Rattle.pb_rule.specs.Rule.{request_place, row_place, HasWords, IsTied, LiesAt, IsOwn, IsViewOf, Fault, AreIntervalsApart, met_if, met_by, HasCoreRun, Keeps, failed_calls, fault_asks, asked_by, failed_asks, AreNextAtSettling, recorded_by, AreOfClients}
 use Rattle.pb_rule.proofs.Known.{tied_clients}
 use Rattle.pb_rule.proofs.MadeRounds.{goes_nowhere, makers_stay, asked_stay}
 use Rattle.pb_rule.proofs.Movers.{own_view, running, is_memory, keeps_rule, others_stay, held_lonely}
@@ -50,7 +50,7 @@ asks_for s side low high requests c (ask ∷ asks) (inr later) seen =
 
 -- Faults in order
 
-apart_more : (low : ℕ) (faults : List Fault) (high client : ℕ) (ask : Ask) (from to : ℕ) → high ≤ from → Rose from to → AreApart low faults high → AreApart low (faults ++ record { client = client; met = record { ask = ask; from = from; to = to } } ∷ []) to
+apart_more : (low : ℕ) (faults : List Fault) (high client : ℕ) (ask : Ask) (from to : ℕ) → high ≤ from → Rose from to → AreIntervalsApart low faults high → AreIntervalsApart low (faults ++ record { client = client; met = record { ask = ask; from = from; to = to } } ∷ []) to
 apart_more low [] high client ask from to after rose apart =
     (omega (arith, after, apart), rose, omega arith)
 apart_more low (fault ∷ faults) high client ask from to after rose apart =
@@ -89,18 +89,18 @@ module _ {X : Type 0} (seen : X → EngineView) (kind : Kind) (start : EngineVie
   stands_holding s id me holds at = at ∙ ap (λ (m : Seated X). some m.0) holds.is
 
   -- a step of the holder is a move of the core, from where its calls led
-  step_on : {s : State (Option X) (List PassView)} (r : Rule s) (c : ℕ) (m new : Memory) → HasRun start m → m.owner ≡ r.m.owner → c < clients_of m → WordMove m c new Went → HasRun start new
+  step_on : {s : State (Option X) (List PassView)} (r : Rule s) (c : ℕ) (m new : Memory) → HasCoreRun start m → m.owner ≡ r.m.owner → c < clients_of m → WordMove m c new Went → HasCoreRun start new
   step_on r c m new run owner there move =
-      moved_on run (stepped_move c Went (record { running = subst IsRunning (sym owner) (running seen kind start r); there = there; move = move }))
+      moved_on run (stepped_move c Went (record { running = subst IsNotReopening (sym owner) (running seen kind start r); there = there; move = move }))
 
   -- The holder goes on
   goes_on : {s : State (Option X) (List PassView)} (r : Rule s) (id : ℕ) (v : PassView) (before : EngineView) (ahead : Option Round) (engine : Engine) (count noted : ℕ) (from work : Work) (rows : ℕ → ℕ → ℕ → ℕ) (now : EngineView) (looked : List Look) (met : List Met) (done : Work) (own : Option OwnRound) (later : List Fault) (words : List ℕ)
       → get_elem? s.views id ≡ some (v ∷ []) → HasTurn seen kind start r v before
-      → HasRun start (record (called_to r.m ahead engine count work) { rows = rows; noted = noted })
+      → HasCoreRun start (record (called_to r.m ahead engine count work) { rows = rows; noted = noted })
       → HasWords (record r.m { rows = rows; noted = noted }) words
       → IsTied kind start (called_to r.m ahead engine count from) now r.faults → failed_calls from r.faults ≡ failed_calls work later
       → failed_asks from (asked_by r.m.owner r.m.book) r.faults ≡ failed_asks work (asked_by r.m.owner r.m.book) later
-      → AreApart 0 later noted → AreOfClients (clients_of r.m) later → met ≡ met_by v.client later → ((d : ℕ) → d ≢ v.client → met_by d later ≡ met_by d r.faults)
+      → AreIntervalsApart 0 later noted → AreOfClients (clients_of r.m) later → met ≡ met_by v.client later → ((d : ℕ) → d ≢ v.client → met_by d later ≡ met_by d r.faults)
       → done ≡ work → IsOwn r.m.start r.m.published ahead own
       → Rule (record { words = words; homes = s.homes; views = set s.views id (record v { looked = looked; met = met; work = done; hand = Some now; own = own } ∷ []) })
   goes_on {s} r id v before ahead engine count noted from work rows now looked met done own later words at turn run has tied counted asked apart theirs met_is others done_is owns =
@@ -155,16 +155,16 @@ module _ {X : Type 0} (seen : X → EngineView) (kind : Kind) (start : EngineVie
   -- the next work of a scan, and the move to it
   record Scanned (m : Memory) (work : Work) : Type 0 where
     pub next : Work
-    pub run : HasRun start (record m { work = next })
+    pub run : HasCoreRun start (record m { work = next })
     pub is : work ≡ next
     pub quiet : (faults : List Fault) → failed_calls next faults ≡ length faults
     pub asks : (ask : Ask) (faults : List Fault) → failed_asks next ask faults ≡ fault_asks faults
 
-  scans : {s : State (Option X) (List PassView)} (r : Rule s) (c : ℕ) (m : Memory) (now : EngineView) (side client found : ℕ) (part : Part) (asks : List Ask) → HasRun start m → m.owner ≡ r.m.owner → c < clients_of m → client < clients_of m → m.owner ≡ Held c side → now.standing ≡ known m
+  scans : {s : State (Option X) (List PassView)} (r : Rule s) (c : ℕ) (m : Memory) (now : EngineView) (side client found : ℕ) (part : Part) (asks : List Ask) → HasCoreRun start m → m.owner ≡ r.m.owner → c < clients_of m → client < clients_of m → m.owner ≡ Held c side → now.standing ≡ known_standing m
       → m.work ≡ Scanning client part asks → found ≡ m.requests client (part_place part) → Scanned m (part_found (kept_number now.standing) side found client part asks)
   scans r c m now side d found AtNumber asks run owner there inside holds standing at found_is = go (eqb found (kept_number now.standing d + 1)) refl
     where
-      due : kept_number now.standing d + 1 ≡ (newest_of (known m) d).number + 1
+      due : kept_number now.standing d + 1 ≡ (newest_of (known_standing m) d).number + 1
       due = ap (λ (t : Standing). (newest_of t d).number + 1) standing
 
       go : (b : Bool) → eqb found (kept_number now.standing d + 1) ≡ b → Scanned m (if b then Scanning d (AtCode found) asks else Scanning (suc d) AtNumber asks)
@@ -203,17 +203,17 @@ module _ {X : Type 0} (seen : X → EngineView) (kind : Kind) (start : EngineVie
     quiet = λ faults. refl;
     asks = λ ask faults. refl;
   }
-  scans r c m now side d found (AtThird number code a b) asks run owner there inside holds standing at found_is = go (eqb (side_of (scanned m d number code a b).op) side) refl
+  scans r c m now side d found (AtThird number code a b) asks run owner there inside holds standing at found_is = go (eqb (side_of_operation (scanned m d number code a b).op) side) refl
     where
       -- the side goes by the code alone
-      whole : (t : Bool) → Scanning (suc d) AtNumber (if eqb (side_of (scanned m d number code a b).op) side then asks ++ ask_of d number code a b found ∷ [] else asks) ≡ Scanning (suc d) AtNumber (seen_with side asks (ask_of d number code a b found))
+      whole : (t : Bool) → Scanning (suc d) AtNumber (if eqb (side_of_operation (scanned m d number code a b).op) side then asks ++ ask_with d number code a b found ∷ [] else asks) ≡ Scanning (suc d) AtNumber (seen_with side asks (ask_with d number code a b found))
       whole t = refl
 
-      go : (t : Bool) → eqb (side_of (scanned m d number code a b).op) side ≡ t → Scanned m (Scanning (suc d) AtNumber (if t then asks ++ ask_of d number code a b found ∷ [] else asks))
+      go : (t : Bool) → eqb (side_of_operation (scanned m d number code a b).op) side ≡ t → Scanned m (Scanning (suc d) AtNumber (if t then asks ++ ask_with d number code a b found ∷ [] else asks))
       go true e = record {
         next = Scanning (suc d) AtNumber (asks ++ scanned m d number code a b ∷ []);
         run = step_on r c m _ run owner there (scanning_own (record { side = side; holds = holds; d = d; seen = asks; number = number; code = code; a = a; b = b; at = at; same = eqb-true _ _ e; is = refl; says = refl }));
-        is = ap (λ (n : ℕ). Scanning (suc d) AtNumber (asks ++ ask_of d number code a b n ∷ [])) found_is;
+        is = ap (λ (n : ℕ). Scanning (suc d) AtNumber (asks ++ ask_with d number code a b n ∷ [])) found_is;
         quiet = λ faults. refl;
         asks = λ ask faults. refl;
       }
@@ -226,7 +226,7 @@ module _ {X : Type 0} (seen : X → EngineView) (kind : Kind) (start : EngineVie
       }
 
   -- a scan that is over
-  scan_over : {m : Memory} (c side : ℕ) (v : PassView) (now : EngineView) → IsMemory m → c < clients_of m → m.owner ≡ Held c side → now.standing ≡ known m → now.standing.clients ≡ clients_of m → v.client ≡ c → v.body ≡ m.book c → v.work ≡ m.work → ScanIsOver now v
+  scan_over : {m : Memory} (c side : ℕ) (v : PassView) (now : EngineView) → IsMemory m → c < clients_of m → m.owner ≡ Held c side → now.standing ≡ known_standing m → now.standing.clients ≡ clients_of m → v.client ≡ c → v.body ≡ m.book c → v.work ≡ m.work → ScanIsOver now v
   scan_over {m} c side v now is there holds standing clients same body work = record {
     may = λ asks over. may_be_served now.standing side c asks (side_is asks over) (met asks over) (subst (λ (t : Standing). AreDue t side 0 asks) (sym (standing ∙ known_shown (clients_of m) AtNumber asks is holds (at asks over))) (begins_due is (begins asks over)));
     own = λ asks over. subst (λ (n : ℕ). AsksFor v.client n asks) (number_is asks over) (subst (λ (d : ℕ). AsksFor d (m.requests c 0) asks) (sym same) (asks_for (shown m) side 0 (clients_of m) m.requests c asks (met asks over) (seen_are asks over)));
@@ -235,7 +235,7 @@ module _ {X : Type 0} (seen : X → EngineView) (kind : Kind) (start : EngineVie
       at : (asks : List Ask) → v.work ≡ Scanning now.standing.clients AtNumber asks → m.work ≡ Scanning (clients_of m) AtNumber asks
       at asks over = sym work ∙ (over ∙ ap (λ (n : ℕ). Scanning n AtNumber asks) clients)
 
-      begins : (asks : List Ask) → v.work ≡ Scanning now.standing.clients AtNumber asks → Begins m c (record m { ahead = Some (round_by side (known m) asks); work = Calling; engine = Writing })
+      begins : (asks : List Ask) → v.work ≡ Scanning now.standing.clients AtNumber asks → Begins m c (record m { ahead = Some (round_by side (known_standing m) asks); work = Calling; engine = Writing })
       begins asks over = record { side = side; holds = holds; seen = asks; at = at asks over; is = refl }
 
       met : (asks : List Ask) → v.work ≡ Scanning now.standing.clients AtNumber asks → Meets c asks
@@ -278,7 +278,7 @@ module _ {X : Type 0} (seen : X → EngineView) (kind : Kind) (start : EngineVie
       p = prepared r id me scanning_now here ready turn
 
       side : ℕ
-      side = side_of (r.m.book (the_view me).client).ask.op
+      side = side_of_operation (r.m.book (the_view me).client).ask.op
 
       from : Memory
       from = called_to r.m p.ahead p.engine p.count (scanning_now (the_view me).work)
@@ -300,7 +300,7 @@ module _ {X : Type 0} (seen : X → EngineView) (kind : Kind) (start : EngineVie
       -- the view has the same work
       work_is : (scanned_on (engine_now seen me) (get_or s.words word 0) (the_view me)).work ≡ next.next
       work_is =
-          ap (scan_found (kept_number now.standing) (side_of v.body.ask.op) found) scan.at ∙ ((λ i. part_found (kept_number now.standing) (side_of (own.body i).ask.op) found client scan.part scan.seen) ∙ next.is)
+          ap (scan_found (kept_number now.standing) (side_of_operation v.body.ask.op) found) scan.at ∙ ((λ i. part_found (kept_number now.standing) (side_of_operation (own.body i).ask.op) found client scan.part scan.seen) ∙ next.is)
 
       never : (stored : ℕ) → scanning_now (the_view me).work ≢ Filling stored
       never stored e = apart (sym scan.at ∙ e)
@@ -309,7 +309,7 @@ module _ {X : Type 0} (seen : X → EngineView) (kind : Kind) (start : EngineVie
           apart q = cc
 
       rule : Rule (record { words = set s.words word (get_or s.words word 0); homes = s.homes; views = set s.views id (scanned_on (engine_now seen me) (get_or s.words word 0) (the_view me) ∷ []) })
-      rule = goes_on r id v (engine_before me) p.ahead p.engine p.count r.m.noted (scanning_now v.work) next.next r.m.rows now (v.looked ++ looked_by (kept_number now.standing) found (scanning_now v.work)) v.met (scan_found (kept_number now.standing) (side_of v.body.ask.op) found (scanning_now v.work)) v.own r.faults (set s.words word found) here turn next.run
+      rule = goes_on r id v (engine_before me) p.ahead p.engine p.count r.m.noted (scanning_now v.work) next.next r.m.rows now (v.looked ++ looked_by (kept_number now.standing) found (scanning_now v.work)) v.met (scan_found (kept_number now.standing) (side_of_operation v.body.ask.op) found (scanning_now v.work)) v.own r.faults (set s.words word found) here turn next.run
           (same_words seen kind start s.words word r.words) p.tied (ap (λ (w : Work). failed_calls w r.faults) scan.at ∙ sym (next.quiet r.faults)) (ap (λ (w : Work). failed_asks w (asked_by r.m.owner r.m.book) r.faults) scan.at ∙ sym (next.asks (asked_by r.m.owner r.m.book) r.faults)) r.apart r.clients (r.views id (v ∷ []) here).1 (λ d other. refl) work_is (p.stays never v.own turn.holder.own)
 
       over : ScanIsOver (engine_now seen me) (scanned_on (engine_now seen me) (get_or s.words word 0) (the_view me))
@@ -348,14 +348,14 @@ module _ {X : Type 0} (seen : X → EngineView) (kind : Kind) (start : EngineVie
       next_row_is : row ≡ next_row r.m
       next_row_is = row_is ∙ ap (λ (n : ℕ). suc n % 2) turn.holder.front
 
-      known_word : value ≡ row_word (newest_of (known from) client) place
+      known_word : value ≡ row_word (newest_of (known_standing from) client) place
       known_word = value_is ∙ ap (λ (t : Standing). row_word (newest_of t client) place) p.tied.standing
 
-      run : HasRun start (record from { rows = with_row_word row client place value r.m.rows; work = Filling (suc (4 * client + place)) })
+      run : HasCoreRun start (record from { rows = with_row_word row client place value r.m.rows; work = Filling (suc (4 * client + place)) })
       run =
-          subst (λ (n : ℕ). HasRun start (record from { rows = with_row_word n client place value r.m.rows; work = Filling (suc (4 * client + place)) })) (sym next_row_is)
-          (subst (λ (n : ℕ). HasRun start (record from { rows = with_row_word (next_row r.m) client place n r.m.rows; work = Filling (suc (4 * client + place)) })) (sym known_word)
-          (step_on r v.client from _ p.run refl own.there (filling (record { side = side_of (r.m.book v.client).ask.op; holds = turn.owner; d = client; place = place; there = there; few = few; at = filled; is = refl; says = refl }))))
+          subst (λ (n : ℕ). HasCoreRun start (record from { rows = with_row_word n client place value r.m.rows; work = Filling (suc (4 * client + place)) })) (sym next_row_is)
+          (subst (λ (n : ℕ). HasCoreRun start (record from { rows = with_row_word (next_row r.m) client place n r.m.rows; work = Filling (suc (4 * client + place)) })) (sym known_word)
+          (step_on r v.client from _ p.run refl own.there (filling (record { side = side_of_operation (r.m.book v.client).ask.op; holds = turn.owner; d = client; place = place; there = there; few = few; at = filled; is = refl; says = refl }))))
 
       words : HasWords (record r.m { rows = with_row_word row client place value r.m.rows }) (set s.words word value)
       words = subst (λ (w : ℕ). HasWords (record r.m { rows = with_row_word row client place value r.m.rows }) (set s.words w value)) (sym word_is) (row_stored row client place value (odd_below _ row row_is) there few r.words)
@@ -406,8 +406,8 @@ module _ {X : Type 0} (seen : X → EngineView) (kind : Kind) (start : EngineVie
       cause : HasCause (Noting (engine_before me).device.faults (engine_now seen me).device.faults) r.m.noted p.count
       cause = (memory_of r.kept p.run).cause
 
-      run : HasRun start (record from { noted = (engine_now seen me).device.faults; work = GivingUp (engine_before me).device.faults (engine_now seen me).device.faults })
-      run = step_on r v.client from _ p.run refl own.there (noting (record { side = side_of (r.m.book v.client).ask.op; holds = turn.owner; from = low; to = high; at = refl; is = refl; says = refl }))
+      run : HasCoreRun start (record from { noted = (engine_now seen me).device.faults; work = GivingUp (engine_before me).device.faults (engine_now seen me).device.faults })
+      run = step_on r v.client from _ p.run refl own.there (noting (record { side = side_of_operation (r.m.book v.client).ask.op; holds = turn.owner; from = low; to = high; at = refl; is = refl; says = refl }))
 
       words : HasWords (record r.m { noted = (engine_now seen me).device.faults }) (set s.words 1 count)
       words = subst (λ (n : ℕ). HasWords (record r.m { noted = high }) (set s.words 1 n)) (sym count_is) (noted_stored high r.words)
@@ -422,7 +422,7 @@ module _ {X : Type 0} (seen : X → EngineView) (kind : Kind) (start : EngineVie
       asker : (the_view me).body.ask.client ≡ (the_view me).client
       asker =
           let client = (is_memory seen kind start r).clients v.client own.there in
-          ap (λ (b : Client). b.ask.client) own.body ∙ (client.asking (ap is_idle (the_holder (side_of (r.m.book v.client).ask.op) client turn.owner).stage)).client
+          ap (λ (b : Client). b.ask.client) own.body ∙ (client.asking (ap is_idle (the_holder (side_of_operation (r.m.book v.client).ask.op) client turn.owner).stage)).client
 
       never : (stored : ℕ) → Noting (engine_before me).device.faults (engine_now seen me).device.faults ≢ Filling stored
       never stored e = cc

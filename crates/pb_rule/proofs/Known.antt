@@ -6,13 +6,13 @@ use Rattle.pb_object.specs.History.{Round}
 use Rattle.pb_object.specs.Standing.{Standing}
 use Rattle.pb_core.specs.declared.event.Stepped.{Stepped}
 use Rattle.pb_core.specs.HolderMoves.{HolderMove, beginning, recording, settling_none, settling_round, failing_settling, failing_before, failing_after}
-use Rattle.pb_core.specs.Memory.{Engine, Resting, Recorded, Writing, Doubtful, Memory, shown, known, known_by, with_round, clients_of}
+use Rattle.pb_core.specs.Memory.{Engine, Resting, Recorded, Writing, Doubtful, Memory, shown, known_standing, known_by, with_round_ahead, clients_of}
 use Rattle.pb_core.specs.MemoryRun.{begun, MemoryMove, asked, stepped, called, MemoryRun}
 use Rattle.pb_core.specs.WordMoves.{WordMove, storing, announcing, looking, matching, lacking_held, lacking_free, loading_code, loading_value, loading_extra, confirming, finding_new, finding_held, taking_sure, taking_unsure, missing, passing_over, meeting, scanning_code, scanning_first, scanning_second, scanning_own, scanning_other, filling, publishing_own, publishing_others, noting, giving_up}
 use Rattle.pb_core.proofs.Histories.{HasShape, shape_after}
 use Rattle.pb_engine.specs.View.{EngineView}
 use Rattle.pb_rule.specs.View.{PassView}
-use Rattle.pb_rule.specs.Rule.{Fault, IsTied, HasRun, Keeps}
+use Rattle.pb_rule.specs.Rule.{Fault, IsTied, HasCoreRun, Keeps}
 
 -- Kind and clients
 
@@ -23,7 +23,7 @@ shape_then first more = record {
   lists = more.lists ∙ first.lists;
 }
 
-round_shape : (s t : Standing) (ahead : Option Round) → HasShape s t → HasShape s (with_round ahead t)
+round_shape : (s t : Standing) (ahead : Option Round) → HasShape s t → HasShape s (with_round_ahead ahead t)
 round_shape s t None shape = shape
 round_shape s t (Some round) shape = shape_then shape (shape_after t (round ∷ []))
 
@@ -33,7 +33,7 @@ known_shape_by Recorded s t ahead shape = round_shape s t ahead shape
 known_shape_by Writing s t ahead shape = shape
 known_shape_by Doubtful s t ahead shape = shape
 
-pub known_shape : (m : Memory) → HasShape m.start (known m)
+pub known_shape : (m : Memory) → HasShape m.start (known_standing m)
 known_shape m =
     known_shape_by m.engine m.start (shown m) m.ahead (shape_after m.start (m.past ++ m.published))
 
@@ -111,7 +111,7 @@ run_same (suc count) old new (middle, first, more) =
     record { start = b.start ∙ a.start; past = b.past ∙ a.past }
 
 -- memory's standing at first is the engine's, and no crash was before
-pub started : {start : EngineView} {m : Memory} → HasRun start m → (m.start ≡ start.standing) × (m.past ≡ [])
+pub started : {start : EngineView} {m : Memory} → HasCoreRun start m → (m.start ≡ start.standing) × (m.past ≡ [])
 started {start} {m} run =
     let same = run_same run.moves (begun start.standing start.device.faults) m run.run in
     (same.start, same.past)

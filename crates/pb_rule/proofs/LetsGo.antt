@@ -12,7 +12,7 @@ use Rattle.pb_object.specs.declared.request.Reply.{Reply}
 use Rattle.pb_object.specs.History.{Entry, Round, History, kept_by}
 use Rattle.pb_object.specs.Standing.{Standing, newest_of}
 use Rattle.pb_core.specs.Client.{Looking, Client, is_idle, is_holding, entry_by}
-use Rattle.pb_core.specs.Memory.{Owner, Free, NoWork, Filling, GivingUp, Engine, Recorded, Doubtful, Memory, with_at, with_client, clients_of, shown, known, known_by, with_round, side_of, Work}
+use Rattle.pb_core.specs.Memory.{Owner, Free, NoWork, Filling, GivingUp, Engine, Recorded, Doubtful, Memory, with_at, with_client, clients_of, shown, known_standing, known_by, with_round_ahead, side_of_operation, Work}
 use Rattle.pb_core.specs.MemoryParts.{held_count, own_entries, IsMemory}
 use Rattle.pb_core.specs.MemoryRun.{stepped as stepped_move}
 use Rattle.pb_core.specs.WordMoves.{go_to, steps_to, answered, with_answer, with_published, publishing_own, publishing_others, giving_up}
@@ -26,7 +26,7 @@ use Rattle.pb_rule.specs.View.{Note, Turn, Row, OwnRound, PassView}
 use Rattle.pb_rule.specs.Holding.{IsGivingUp}
 use Rattle.pb_rule.specs.Plays.{Seated, the_view, engine_before, engine_now, slot_seen, lets_go, own_round, published_body, published, publish_step, given_up}
 use Rattle.pb_rule.specs.Ready.{IsReadyFor, same_work}
-use Rattle.pb_rule.specs.Rule.{AreApart, HasWords, IsTied, LiesAt, IsBelow, SuitsEngine, recorded_by, HasFront, IsOwn, AreServed, IsViewOf, HasRun, Keeps, failed_calls, asked_by, failed_asks, AreNextAtSettling, IsUnpublished, AreOfClients, HasAnsweredOne}
+use Rattle.pb_rule.specs.Rule.{AreIntervalsApart, HasWords, IsTied, LiesAt, IsBelow, SuitsEngine, recorded_by, HasFront, IsOwn, AreServed, IsViewOf, HasCoreRun, Keeps, failed_calls, asked_by, failed_asks, AreNextAtSettling, IsUnpublished, AreOfClients, HasAnsweredOne}
 use Rattle.pb_rule.proofs.Holds.{stands_holding}
 use Rattle.pb_rule.proofs.MadeRounds.{GoesOn, kept_request, answered_adds, stays_open, is_answered, others_go_on, not_doubtful, none_unpublished, makers_stay, asked_stay}
 use Rattle.pb_rule.proofs.Movers.{own_view, running, is_memory, keeps_rule, others_stay, held_lonely, served_more}
@@ -70,14 +70,14 @@ module _ {X : Type 0} (seen : X → EngineView) (kind : Kind) (start : EngineVie
   -- The holder lets the turn go: the engine lies in its slot again
   lets_turn_go : {s : State (Option X) (List PassView)} (r : Rule s) (id : ℕ) (v : PassView) (before : EngineView) (x : X) (new : Memory) (b body : Client) (notes : List Note) (served : List OwnRound) (more : History) (words : List ℕ)
       → get_elem? s.views id ≡ some (v ∷ []) → HasTurn seen kind start r v before → seen x ≡ before
-      → HasRun start new → new.owner ≡ Free → new.start ≡ r.m.start → new.published ≡ r.m.published ++ more → new.book ≡ with_at v.client b r.m.book → new.noted ≡ r.m.noted
+      → HasCoreRun start new → new.owner ≡ Free → new.start ≡ r.m.start → new.published ≡ r.m.published ++ more → new.book ≡ with_at v.client b r.m.book → new.noted ≡ r.m.noted
       → HasWords new words → IsTied kind start new before r.faults → body ≡ b → is_holding body.stage ≡ false → HasFront body.stage body.front → AreServed new.start new.published served
       → Rule (record { words = words; homes = set s.homes 0 (some (Some x)); views = set s.views id (record v { body = body; notes = notes; served = served; work = NoWork; hand = None; own = None } ∷ []) })
   lets_turn_go {s} r id v before x new b body notes served more words at turn seen_is run free start_is published_is book noted has tied same waits front all =
       keeps_rule seen kind start r id v (record v { body = body; notes = notes; served = served; work = NoWork; hand = None; own = None }) new before r.faults words (set s.homes 0 (some (Some x))) at run has tied
       (subst (λ (o : Owner). LiesAt seen o before (set s.homes 0 (some (Some x)))) (sym free) (x, seen_is, ap (λ (h : List (maybe.Option (Option X))). set h 0 (some (Some x))) empty))
       (subst (λ (o : Owner). IsBelow o (clients_of new)) (sym free) tt)
-      (subst (λ (n : ℕ). AreApart 0 r.faults n) (sym noted) r.apart)
+      (subst (λ (n : ℕ). AreIntervalsApart 0 r.faults n) (sym noted) r.apart)
       (subst (λ (t : Standing). AreOfClients t.clients r.faults) (sym start_is) r.clients)
       refl
       (record {
@@ -148,10 +148,10 @@ module _ {X : Type 0} (seen : X → EngineView) (kind : Kind) (start : EngineVie
       ahead_is : r.m.ahead ≡ Some (some_round r.m.ahead suits.1).0
       ahead_is = (some_round r.m.ahead suits.1).1
 
-      known_is : known r.m ≡ with_round (Some (some_round r.m.ahead suits.1).0) (shown r.m)
+      known_is : known_standing r.m ≡ with_round_ahead (Some (some_round r.m.ahead suits.1).0) (shown r.m)
       known_is = λ i. known_by (suits.0 i) (ahead_is i) (shown r.m)
 
-      standing : (engine_before me).standing ≡ known r.m
+      standing : (engine_before me).standing ≡ known_standing r.m
       standing = ap (λ (e : EngineView). e.standing) (sym held.same) ∙ r.tied.standing
 
       -- memory afterwards, with this book and these answers
@@ -184,12 +184,12 @@ module _ {X : Type 0} (seen : X → EngineView) (kind : Kind) (start : EngineVie
       asker : (r.m.book (the_view me).client).ask.client ≡ (the_view me).client
       asker =
           let client = is.clients v.client own.there in
-          (client.asking (ap is_idle (the_holder (side_of (r.m.book v.client).ask.op) client held.owner).stage)).client
+          (client.asking (ap is_idle (the_holder (side_of_operation (r.m.book v.client).ask.op) client held.owner).stage)).client
 
       has_own : (other : Round) → IsUnpublished r.m other → HasRequest other (r.m.book (the_view me).client).ask
       has_own other unpublished = subst (HasRequest other) own_ask unpublished.own
 
-      kept_own : (other : Round) (unpublished : IsUnpublished r.m other) → newest_of (known r.m) (the_view me).client ≡ kept_by (entry_by (r.m.book (the_view me).client).ask (has_own other unpublished).reply)
+      kept_own : (other : Round) (unpublished : IsUnpublished r.m other) → newest_of (known_standing r.m) (the_view me).client ≡ kept_by (entry_by (r.m.book (the_view me).client).ask (has_own other unpublished).reply)
       kept_own other unpublished =
           ap (λ (t : Standing). newest_of t v.client) (λ i. known_by (unpublished.recorded i) (unpublished.ahead i) (shown r.m))
           ∙ kept_request v.client other is unpublished.ahead asker (has_own other unpublished)
@@ -208,7 +208,7 @@ module _ {X : Type 0} (seen : X → EngineView) (kind : Kind) (start : EngineVie
       all_served = served_append r.m.start (r.m.published ++ round ∷ []) v.served (own_round v.own) (served_more r.m.start r.m.published (round ∷ []) v.served own.served)
           (own_served r.m.start r.m.published round v.own (subst (λ (a : Option Round). IsOwn r.m.start r.m.published a v.own) ahead_is held.holder.own))
 
-      kept_is : newest_of (engine_before me).standing (the_view me).client ≡ newest_of (known r.m) (the_view me).client
+      kept_is : newest_of (engine_before me).standing (the_view me).client ≡ newest_of (known_standing r.m) (the_view me).client
       kept_is = ap (λ (t : Standing). newest_of t v.client) standing
 
       number_is : (r.m.book (the_view me).client).ask.number ≡ (the_view me).body.ask.number
@@ -220,14 +220,14 @@ module _ {X : Type 0} (seen : X → EngineView) (kind : Kind) (start : EngineVie
       go : (mine : Bool) → eqb (newest_of (engine_before me).standing (the_view me).client).number (the_view me).body.ask.number ≡ mine
           → Rule (record { words = set s.words 0 turn; homes = set s.homes 0 (some (Some ready.holds.value)); views = set s.views id (record (the_view me) { body = published_body mine (newest_of (engine_before me).standing (the_view me).client).reply (the_view me).body; notes = (the_view me).notes ++ Row (newest_of (engine_before me).standing (the_view me).client).number ∷ Turn (2 * suc (the_view me).body.front) ∷ []; served = (the_view me).served ++ own_round (the_view me).own; work = NoWork; hand = None; own = None } ∷ []) })
       go true e =
-          let reply : Reply = (newest_of (known r.m) v.client).reply in
+          let reply : Reply = (newest_of (known_standing r.m) v.client).reply in
           let new : Memory = with_answer v.client reply (suc (length r.m.published)) (with_published round r.m) in
           lets_turn_go r id v before x new (answered reply (suc (length r.m.published)) (r.m.book v.client)) (answered (newest_of before.standing v.client).reply (suc v.body.front) v.body) (v.notes ++ Row (newest_of before.standing v.client).number ∷ Turn (2 * suc v.body.front) ∷ []) (v.served ++ own_round v.own) (round ∷ []) (set s.words 0 turn) here held seen_is
           (moved_on r.run (stepped_move v.client _ (record {
             running = running seen kind start r;
             there = own.there;
             move = publishing_own (record {
-              side = side_of (r.m.book v.client).ask.op;
+              side = side_of_operation (r.m.book v.client).ask.op;
               holds = held.owner;
               round = round;
               at = work;
@@ -258,7 +258,7 @@ module _ {X : Type 0} (seen : X → EngineView) (kind : Kind) (start : EngineVie
             running = running seen kind start r;
             there = own.there;
             move = publishing_others (record {
-              side = side_of (r.m.book v.client).ask.op;
+              side = side_of_operation (r.m.book v.client).ask.op;
               holds = held.owner;
               round = round;
               at = work;
@@ -315,8 +315,8 @@ module _ {X : Type 0} (seen : X → EngineView) (kind : Kind) (start : EngineVie
       stored : HasWords (record r.m { turn = turn }) (set s.words 0 turn)
       stored = turn_stored turn r.words
 
-      run : HasRun start (record (steps_to (the_view me).client Looking r.m) { turn = r.m.turn - 1; owner = Free; work = NoWork })
-      run = moved_on r.run (stepped_move v.client _ (record { running = running seen kind start r; there = own.there; move = giving_up (record { side = side_of (r.m.book v.client).ask.op; holds = held.owner; from = giving.from; to = giving.to; at = work; is = refl; says = refl }) }))
+      run : HasCoreRun start (record (steps_to (the_view me).client Looking r.m) { turn = r.m.turn - 1; owner = Free; work = NoWork })
+      run = moved_on r.run (stepped_move v.client _ (record { running = running seen kind start r; there = own.there; move = giving_up (record { side = side_of_operation (r.m.book v.client).ask.op; holds = held.owner; from = giving.from; to = giving.to; at = work; is = refl; says = refl }) }))
 
       tied : IsTied kind start (record (steps_to (the_view me).client Looking r.m) { turn = r.m.turn - 1; owner = Free; work = NoWork }) (engine_before me) r.faults
       tied = subst (λ (e : EngineView). IsTied kind start new e r.faults) held.same (record {

@@ -13,7 +13,7 @@ use Rattle.pb_object.specs.Standing.{Standing, kept_list_of, newest, newest_of}
 use Rattle.pb_core.specs.Client.{Stage, Idle, Storing, Looking, LoadsNumber, LoadsCode, LoadsValue, LoadsExtra, Confirming, Lacking, Taking, Holding, Client, Dated, is_idle, is_announced, is_holding, entry_by}
 use Rattle.pb_core.specs.HolderMoves.{entries_by}
 use Rattle.pb_core.specs.Memory.{Owner, Free, Held, Closed, Engine, Resting, Recorded, Doubtful, Memory, with_at, clients_of, shown}
-use Rattle.pb_core.specs.MemoryParts.{entries_with, entries_ahead, entry_of, own_entries, HasEntries, IsAsking, Meets, IsMemory}
+use Rattle.pb_core.specs.MemoryParts.{entries_with, entries_ahead, dated_entry, own_entries, HasEntries, IsAsking, Meets, IsMemory}
 use Rattle.pb_core.specs.WordMoves.{answered}
 use Rattle.pb_core.proofs.Basics.{with_at-other}
 use Rattle.pb_core.proofs.Histories.{HasShape, shape_after}
@@ -87,7 +87,7 @@ asked_same Closed c b book other = refl
 -- A client's own entries
 
 own_push : (reply : Reply) (front : ℕ) (b : Client) → own_entries (answered reply front b) ≡ own_entries b ++ entry_by b.ask reply ∷ []
-own_push reply front b = map-append entry_of b.mine (record { entry = entry_by b.ask reply; after = b.after; by = front } ∷ [])
+own_push reply front b = map-append dated_entry b.mine (record { entry = entry_by b.ask reply; after = b.after; by = front } ∷ [])
 
 -- an answer leaves those there are, and adds its own
 pub answered_keeps : (reply : Reply) (front : ℕ) (b : Client) (entry : Entry) → Contains (own_entries b) entry → Contains (own_entries (answered reply front b)) entry
@@ -112,7 +112,7 @@ answered_still : (old new : Client) (entry : Entry) → ((one : Entry) → Conta
 answered_still old new entry grows was = record { reply = was.reply; own = grows (record entry { reply = was.reply }) was.own }
 
 same_entries : (old new : Client) → new.mine ≡ old.mine → (entry : Entry) → Contains (own_entries old) entry → Contains (own_entries new) entry
-same_entries old new mine entry own = subst (λ (dated : List Dated). Contains (map entry_of dated) entry) (sym mine) own
+same_entries old new mine entry own = subst (λ (dated : List Dated). Contains (map dated_entry dated) entry) (sym mine) own
 
 -- its request stays open
 pub stays_open : (old new : Client) → new.mine ≡ old.mine → new.ask ≡ old.ask → is_idle new.stage ≡ false → GoesOn old new

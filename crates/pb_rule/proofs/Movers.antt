@@ -12,21 +12,21 @@ use Rattle.pb_object.specs.declared.request.Ask.{Ask}
 use Rattle.pb_object.specs.History.{Entry, History}
 use Rattle.pb_object.specs.Standing.{Standing}
 use Rattle.pb_core.specs.Client.{Stage, Client, is_holding}
-use Rattle.pb_core.specs.Memory.{Owner, Free, Held, Closed, Memory, with_at, with_client, clients_of, side_of}
+use Rattle.pb_core.specs.Memory.{Owner, Free, Held, Closed, Memory, with_at, with_client, clients_of, side_of_operation}
 use Rattle.pb_core.specs.MemoryParts.{IsMemory}
-use Rattle.pb_core.specs.WordMoves.{IsRunning}
+use Rattle.pb_core.specs.WordMoves.{IsNotReopening}
 use Rattle.pb_core.proofs.Basics.{with_at-same, with_at-other}
 use Rattle.pb_core.proofs.Turns.{held-client, free≢held}
 use Rattle.pb_engine.specs.Calls.{progress_of, AreMadeFor, HasRequest}
 use Rattle.pb_engine.specs.View.{EngineView}
 use Rattle.pb_rule.specs.View.{Note, OwnRound, PassView}
-use Rattle.pb_rule.specs.Rule.{HasWords, IsTied, LiesAt, IsBelow, HasFront, AreServed, IsViewOf, Fault, AreApart, AreOfClients, met_by, AreViews, HasRun, Keeps, asked_by, failed_asks, AreNextAtSettling}
+use Rattle.pb_rule.specs.Rule.{HasWords, IsTied, LiesAt, IsBelow, HasFront, AreServed, IsViewOf, Fault, AreIntervalsApart, AreOfClients, met_by, AreViews, HasCoreRun, Keeps, asked_by, failed_asks, AreNextAtSettling}
 use Rattle.pb_rule.proofs.MadeRounds.{GoesOn, asked_same, others_go_on, makers_stay, asked_stay}
 use Rattle.pb_rule.proofs.Runs.{memory_of}
 use Rattle.pb_rule.proofs.WordLemmas.{words_of}
 
 -- where the engine lies says that the region isn't being opened
-pub runs_on : {X : Type 0} (seen : X → EngineView) (owner : Owner) (engine : EngineView) (homes : List (maybe.Option (Option X))) → LiesAt seen owner engine homes → IsRunning owner
+pub runs_on : {X : Type 0} (seen : X → EngineView) (owner : Owner) (engine : EngineView) (homes : List (maybe.Option (Option X))) → LiesAt seen owner engine homes → IsNotReopening owner
 runs_on seen Free engine homes lies = tt
 runs_on seen (Held c side) engine homes lies = tt
 runs_on seen Closed engine homes lies = absurd lies
@@ -61,7 +61,7 @@ module _ {X : Type 0} (seen : X → EngineView) (kind : Kind) (start : EngineVie
   pub is_memory : {s : St} (r : Rule s) → IsMemory r.m
   is_memory r = memory_of r.kept r.run
 
-  pub running : {s : St} (r : Rule s) → IsRunning r.m.owner
+  pub running : {s : St} (r : Rule s) → IsNotReopening r.m.owner
   running {s} r = runs_on seen r.m.owner r.engine s.homes r.lies
 
   -- what the rule says of the one view of a seat
@@ -79,7 +79,7 @@ module _ {X : Type 0} (seen : X → EngineView) (kind : Kind) (start : EngineVie
 
   -- one seat moves: memory, engine and its own view change, and the others see what they saw
   pub keeps_rule : {s : St} (r : Rule s) (id : ℕ) (v w : PassView) (new : Memory) (after : EngineView) (later : List Fault) (words : List ℕ) (homes : List (maybe.Option (Option X)))
-      → get_elem? s.views id ≡ some (v ∷ []) → HasRun start new → HasWords new words → IsTied kind start new after later → LiesAt seen new.owner after homes → IsBelow new.owner (clients_of new) → AreApart 0 later new.noted → AreOfClients (clients_of new) later
+      → get_elem? s.views id ≡ some (v ∷ []) → HasCoreRun start new → HasWords new words → IsTied kind start new after later → LiesAt seen new.owner after homes → IsBelow new.owner (clients_of new) → AreIntervalsApart 0 later new.noted → AreOfClients (clients_of new) later
       → w.client ≡ v.client → IsViewOf new after w → w.met ≡ met_by w.client later → ((u : PassView) → u.client ≢ v.client → IsViewOf r.m r.engine u → IsViewOf new after u)
       → ((d : ℕ) → d ≢ v.client → met_by d later ≡ met_by d r.faults) → Rule (record { words = words; homes = homes; views = set s.views id (w ∷ []) })
   keeps_rule {s} r id v w new after later words homes at run has tied lies below apart theirs same own met stays others_met = record {
@@ -135,12 +135,12 @@ module _ {X : Type 0} (seen : X → EngineView) (kind : Kind) (start : EngineVie
 
   pub free_lonely : {m : Memory} (c : ℕ) → IsMemory m → m.owner ≡ Free → IsLonely m c
   free_lonely {m} c is free = record {
-    waits = λ d inside other. holding_or (m.book d).stage (λ holds. free≢held d (side_of (m.book d).ask.op) (sym free ∙ (is.clients d inside).holding holds));
+    waits = λ d inside other. holding_or (m.book d).stage (λ holds. free≢held d (side_of_operation (m.book d).ask.op) (sym free ∙ (is.clients d inside).holding holds));
   }
 
   pub held_lonely : {m : Memory} (c side : ℕ) → IsMemory m → m.owner ≡ Held c side → IsLonely m c
   held_lonely {m} c side is held = record {
-    waits = λ d inside other. holding_or (m.book d).stage (λ holds. other (sym (held-client c d side (side_of (m.book d).ask.op) (sym held ∙ (is.clients d inside).holding holds))));
+    waits = λ d inside other. holding_or (m.book d).stage (λ holds. other (sym (held-client c d side (side_of_operation (m.book d).ask.op) (sym held ∙ (is.clients d inside).holding holds))));
   }
 
   -- A client that doesn't hold the turn moves
@@ -158,7 +158,7 @@ module _ {X : Type 0} (seen : X → EngineView) (kind : Kind) (start : EngineVie
 
   -- so its view moves with it: where it stands, and the words that it met
   pub client_moves : {s : St} (r : Rule s) (id : ℕ) (v : PassView) (body : Client) (notes : List Note) (b : Client) (requests : ℕ → ℕ → ℕ) (answers : List Entry) (words : List ℕ) → get_elem? s.views id ≡ some (v ∷ [])
-      → HasRun start (record (with_client v.client b r.m) { requests = requests; answers = answers }) → HasWords (record r.m { requests = requests }) words → body ≡ b
+      → HasCoreRun start (record (with_client v.client b r.m) { requests = requests; answers = answers }) → HasWords (record r.m { requests = requests }) words → body ≡ b
       → is_holding v.body.stage ≡ false → is_holding body.stage ≡ false → HasFront body.stage body.front → GoesOn (r.m.book v.client) b
       → Rule (record { words = words; homes = s.homes; views = set s.views id (record v { body = body; notes = notes } ∷ []) })
   client_moves {s} r id v body notes b requests answers words at run has is before free front on =

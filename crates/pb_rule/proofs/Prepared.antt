@@ -12,7 +12,7 @@ use Rattle.pb_pmem.specs.declared.device.DeviceFault.{DeviceFault}
 use Rattle.pb_pmem.specs.Count.{Rose}
 use Rattle.pb_core.specs.Client.{Client, is_holding}
 use Rattle.pb_core.specs.HolderMoves.{round_by, HolderMove, beginning, recording, settling_none, settling_round, failing_settling, failing_before, failing_after, Begins}
-use Rattle.pb_core.specs.Memory.{Owner, Held, AtNumber, Work, Settling, Scanning, Calling, Filling, Noting, Engine, Resting, Recorded, Writing, Doubtful, Memory, clients_of, shown, known, known_by, with_round, coming, side_of}
+use Rattle.pb_core.specs.Memory.{Owner, Held, AtNumber, Work, Settling, Scanning, Calling, Filling, Noting, Engine, Resting, Recorded, Writing, Doubtful, Memory, clients_of, shown, known_standing, known_by, with_round_ahead, coming, side_of_operation}
 use Rattle.pb_core.specs.MemoryParts.{IsMemory, IsScan}
 use Rattle.pb_core.specs.MemoryRun.{called}
 use Rattle.pb_core.proofs.Scans.{the_scan, known_shown, meets_some}
@@ -28,8 +28,8 @@ use Rattle.pb_engine.proofs.Coming.{after_round_made, after_round_failed, after_
 use Rattle.pb_engine.proofs.MadeFor.{round_for_none, settling_for_none, failed_for, failed_settling_for}
 use Rattle.pb_rule.specs.View.{OwnRound, PassView, numbers_of}
 use Rattle.pb_rule.specs.Plays.{own_by}
-use Rattle.pb_rule.specs.Ready.{Settled, FailedSettling, MadeRound, FailedRound as FailedMaking, Ready, untouched, settled_none, settled_round, recorded, failed_settling, failed_round}
-use Rattle.pb_rule.specs.Rule.{called_if, called_round, SuitsEngine, recorded_by, IsTied, IsAhead, IsOwn, IsHolder, HasNothing, IsViewOf, HasRun, Keeps, Fault, failed_calls, fault_asks, asked_by, failed_asks, IsUnpublished, IsNextOn, AreNextAtSettling, AreCalledFor, IsAskedFor}
+use Rattle.pb_rule.specs.Ready.{Settled, FailedSettling, MadeRound, LeavesFailedRound as FailedMaking, Ready, untouched, settled_none, settled_round, recorded, failed_settling, failed_round}
+use Rattle.pb_rule.specs.Rule.{called_if, called_round, SuitsEngine, recorded_by, IsTied, IsAhead, IsOwn, IsHolder, HasNothing, IsViewOf, HasCoreRun, Keeps, Fault, failed_calls, fault_asks, asked_by, failed_asks, IsUnpublished, IsNextOn, AreNextAtSettling, AreCalledFor, IsAskedFor}
 use Rattle.pb_rule.proofs.Known.{started}
 use Rattle.pb_rule.proofs.MadeRounds.{goes_nowhere, scanned_request, not_resting, not_doubtful, makers_stay, makers_more, asked_stay, asked_more, ahead_asked, held_next, round_next, settling_next, failed_next, failed_settling_next}
 use Rattle.pb_rule.proofs.Movers.{own_view, is_memory}
@@ -45,7 +45,7 @@ pub record IsPrepared (kind : Kind) (start : EngineView) (m : Memory) (faults : 
   pub ahead : Option Round
   pub engine : Engine
   pub count : ℕ
-  pub run : HasRun start (called_to m ahead engine count work)
+  pub run : HasCoreRun start (called_to m ahead engine count work)
   pub tied : IsTied kind start (called_to m ahead engine count work) now faults
   -- the round that is filled from a scan is the one ahead, and else a round of one's own stays as it is
   pub fills : (stored : ℕ) → work ≡ Filling stored → (own : Option OwnRound) → IsOwn m.start m.published m.ahead own → IsOwn m.start m.published ahead (own_by before (length m.published) m.work own)
@@ -91,8 +91,8 @@ none_ahead start published ahead later (Some own) none is =
     none_some : (round : Round) → None ≡ Some round → ⊥
     none_some round e = cc
 
-own_at : (work known : Work) (before : EngineView) (rounds : ℕ) (own : Option OwnRound) (start : Standing) (published : History) (ahead : Option Round) → work ≡ known → IsOwn start published ahead (own_by before rounds known own) → IsOwn start published ahead (own_by before rounds work own)
-own_at work known before rounds own start published ahead is fits =
+own_at : (work known_standing : Work) (before : EngineView) (rounds : ℕ) (own : Option OwnRound) (start : Standing) (published : History) (ahead : Option Round) → work ≡ known_standing → IsOwn start published ahead (own_by before rounds known_standing own) → IsOwn start published ahead (own_by before rounds work own)
+own_at work known_standing before rounds own start published ahead is fits =
     subst (λ (w : Work). IsOwn start published ahead (own_by before rounds w own)) (sym is) fits
 
 -- Calls
@@ -114,7 +114,7 @@ module _ {X : Type 0} (seen : X → EngineView) (kind : Kind) (start : EngineVie
   -- what the rule says of the pass that holds the turn
   pub record HasTurn {s : State (Option X) (List PassView)} (r : Rule s) (v : PassView) (before : EngineView) : Type 0 where
     pub holding : is_holding v.body.stage ≡ true
-    pub owner : r.m.owner ≡ Held v.client (side_of (r.m.book v.client).ask.op)
+    pub owner : r.m.owner ≡ Held v.client (side_of_operation (r.m.book v.client).ask.op)
     pub same : r.engine ≡ before
     pub holder : IsHolder r.m r.engine v
 
@@ -147,12 +147,12 @@ module _ {X : Type 0} (seen : X → EngineView) (kind : Kind) (start : EngineVie
           same_some : Some r.engine ≡ Some before → r.engine ≡ before
           same_some e = cc
 
-  module _ {s : State (Option X) (List PassView)} (r : Rule s) (c : ℕ) (there : c < clients_of r.m) (held : r.m.owner ≡ Held c (side_of (r.m.book c).ask.op)) where
+  module _ {s : State (Option X) (List PassView)} (r : Rule s) (c : ℕ) (there : c < clients_of r.m) (held : r.m.owner ≡ Held c (side_of_operation (r.m.book c).ask.op)) where
     is : IsMemory r.m
     is = is_memory seen kind start r
 
     abbrev side : ℕ
-    side = side_of (r.m.book c).ask.op
+    side = side_of_operation (r.m.book c).ask.op
 
     scanning_filling : (stored : ℕ) → Scanning 0 AtNumber [] ≡ Filling stored → ⊥
     scanning_filling stored e = cc
@@ -180,7 +180,7 @@ module _ {X : Type 0} (seen : X → EngineView) (kind : Kind) (start : EngineVie
         new = called_to r.m ahead engine count work
 
     -- one call is one move
-    one_call : (new : Memory) → HolderMove r.m c new → HasRun start new
+    one_call : (new : Memory) → HolderMove r.m c new → HasCoreRun start new
     one_call new move = moved_on r.run (called c there move)
 
     -- the device, while settling is due
@@ -260,7 +260,7 @@ module _ {X : Type 0} (seen : X → EngineView) (kind : Kind) (start : EngineVie
       count = r.m.count;
       run = one_call _ (settling_round (record { side = side; holds = held; round = doubt.round; at = at; some = ahead_is; is = refl }));
       tied = record {
-        standing = settled.settled.standing ∙ (doubt.standing ∙ (λ i. with_round (sym ahead_is i) (settling_known at i)));
+        standing = settled.settled.standing ∙ (doubt.standing ∙ (λ i. with_round_ahead (sym ahead_is i) (settling_known at i)));
         count = settled.settled.device.faults ∙ r.tied.count;
         suits = settled.settled.sure;
         calls = r.tied.calls ++ settled_call now ∷ [];
@@ -332,22 +332,22 @@ module _ {X : Type 0} (seen : X → EngineView) (kind : Kind) (start : EngineVie
       quiet recorded_is = not_resting (sym resting.0 ∙ recorded_is)
 
       abbrev begun_to : Memory
-      begun_to = record r.m { ahead = Some (round_by side (known r.m) asks); work = Calling; engine = Writing }
+      begun_to = record r.m { ahead = Some (round_by side (known_standing r.m) asks); work = Calling; engine = Writing }
 
       abbrev begins : Begins r.m c begun_to
       begins = record { side = side; holds = held; seen = asks; at = at; is = refl }
 
-      begun_run : HasRun start begun_to
+      begun_run : HasCoreRun start begun_to
       begun_run = one_call begun_to (beginning begins)
 
-      round_is : asked_round r.engine.standing asks ≡ round_by side (known r.m) asks
+      round_is : asked_round r.engine.standing asks ≡ round_by side (known_standing r.m) asks
       round_is =
           round_same (shown r.m) side 0 r.m.start.clients r.m.requests asks (meets_some c asks (scan.own there)) scan.seen_are r.engine.standing ∙ ap (λ (t : Standing). round_by side t asks) r.tied.standing
 
-      own_ahead : IsAhead r.m.start r.m.published (Some (round_by side (known r.m) asks)) (record { number = suc (length r.m.published); entries = (asked_round r.engine.standing asks).entries; kept = numbers_of r.engine.standing })
+      own_ahead : IsAhead r.m.start r.m.published (Some (round_by side (known_standing r.m) asks)) (record { number = suc (length r.m.published); entries = (asked_round r.engine.standing asks).entries; kept = numbers_of r.engine.standing })
       own_ahead = record {
         number = refl;
-        round = round_by side (known r.m) asks;
+        round = round_by side (known_standing r.m) asks;
         ahead_is = refl;
         entries = ap (λ (round : Round). round.entries) round_is;
         kept = ap numbers_of (scan_known ∙ ap (λ (past : History). state_after r.m.start (past ++ r.m.published)) (started r.run).1);
@@ -357,17 +357,17 @@ module _ {X : Type 0} (seen : X → EngineView) (kind : Kind) (start : EngineVie
       own_request : HasRequest (asked_round r.engine.standing asks) (asked_by r.m.owner r.m.book)
       own_request =
           subst (λ (round : Round). HasRequest round (asked_by r.m.owner r.m.book)) (sym round_is)
-          (subst (HasRequest (round_by side (known r.m) asks)) (ap (λ (o : Owner). asked_by o r.m.book) (sym held))
-          (scanned_request {m = begun_to} c (round_by side (known r.m) asks) (known r.m) asks (memory_of r.kept begun_run) there refl refl (scan.own there)))
+          (subst (HasRequest (round_by side (known_standing r.m) asks)) (ap (λ (o : Owner). asked_by o r.m.book) (sym held))
+          (scanned_request {m = begun_to} c (round_by side (known_standing r.m) asks) (known_standing r.m) asks (memory_of r.kept begun_run) there refl refl (scan.own there)))
 
       -- and all that is in it was asked for
       all_asked : (entry : Entry) → Contains (asked_round r.engine.standing asks).entries entry → IsAskedFor (clients_of r.m) r.m.book entry
       all_asked entry one =
-          ahead_asked {m = begun_to} (round_by side (known r.m) asks) (memory_of r.kept begun_run) refl entry (subst (λ (round : Round). Contains round.entries entry) round_is one)
+          ahead_asked {m = begun_to} (round_by side (known_standing r.m) asks) (memory_of r.kept begun_run) refl entry (subst (λ (round : Round). Contains round.entries entry) round_is one)
 
       prepare_recorded : (now : EngineView) (work : Work) → IsEngine kind now → MadeRound asks r.engine now → work ≡ Filling 0 → IsPrepared kind start r.m r.faults r.engine now work
       prepare_recorded now work sound made work_is = subst (λ (w : Work). IsPrepared kind start r.m r.faults r.engine now w) (sym work_is) (record {
-        ahead = Some (round_by side (known r.m) asks);
+        ahead = Some (round_by side (known_standing r.m) asks);
         engine = Recorded;
         count = r.m.count;
         run = moved_on begun_run (called c there (recording (record { side = side; holds = held; at = refl; is = refl })));
@@ -377,11 +377,11 @@ module _ {X : Type 0} (seen : X → EngineView) (kind : Kind) (start : EngineVie
           suits = made.made.sure;
           calls = r.tied.calls ++ Made (asked_round r.engine.standing asks) (round_ops r.engine (asked_round r.engine.standing asks) made.made.lines) ∷ [];
           come = subst (λ (round : Round). HasCome start now (r.m.published ++ round ∷ []) (length r.faults) (r.tied.calls ++ Made (asked_round r.engine.standing asks) (round_ops r.engine (asked_round r.engine.standing asks) made.made.lines) ∷ [])) round_is (after_round_made start r.engine now r.m.published (length r.faults) r.tied.calls (asked_round r.engine.standing asks) scan_come sure decided made.made made.covers);
-          called_for = one_called (Some (round_by side (known r.m) asks)) Recorded r.m.count (Filling 0) (Made (asked_round r.engine.standing asks) (round_ops r.engine (asked_round r.engine.standing asks) made.made.lines)) quiet (round_for_none r.tied.calls (asked_round r.engine.standing asks) (round_ops r.engine (asked_round r.engine.standing asks) made.made.lines) (fault_asks r.faults) scan_for) (round_next start.standing (progress_of [] start) r.tied.calls (asked_round r.engine.standing asks) (round_ops r.engine (asked_round r.engine.standing asks) made.made.lines) (fault_asks r.faults) scan_for scan_next)
+          called_for = one_called (Some (round_by side (known_standing r.m) asks)) Recorded r.m.count (Filling 0) (Made (asked_round r.engine.standing asks) (round_ops r.engine (asked_round r.engine.standing asks) made.made.lines)) quiet (round_for_none r.tied.calls (asked_round r.engine.standing asks) (round_ops r.engine (asked_round r.engine.standing asks) made.made.lines) (fault_asks r.faults) scan_for) (round_next start.standing (progress_of [] start) r.tied.calls (asked_round r.engine.standing asks) (round_ops r.engine (asked_round r.engine.standing asks) made.made.lines) (fault_asks r.faults) scan_for scan_next)
               (record { recorded = refl; ahead = ap Some (sym round_is); own = own_request });
           sound = sound;
         };
-        fills = λ stored fills own is. own_at r.m.work (Scanning (clients_of r.m) AtNumber asks) r.engine (length r.m.published) own r.m.start r.m.published (Some (round_by side (known r.m) asks)) at own_ahead;
+        fills = λ stored fills own is. own_at r.m.work (Scanning (clients_of r.m) AtNumber asks) r.engine (length r.m.published) own r.m.start r.m.published (Some (round_by side (known_standing r.m) asks)) at own_ahead;
         stays = λ never. absurd (never 0 refl);
       })
 
@@ -423,7 +423,7 @@ module _ {X : Type 0} (seen : X → EngineView) (kind : Kind) (start : EngineVie
             stays = λ never own is. none_ahead r.m.start r.m.published r.m.ahead _ own resting.1 is;
           }
           go true e = record {
-            ahead = Some (round_by side (known r.m) asks);
+            ahead = Some (round_by side (known_standing r.m) asks);
             engine = Doubtful;
             count = now.device.faults;
             run = moved_on begun_run (called c there (failing_after (record { side = side; holds = held; to = now.device.faults; at = refl; rose = rose; is = refl })));
@@ -433,7 +433,7 @@ module _ {X : Type 0} (seen : X → EngineView) (kind : Kind) (start : EngineVie
               suits = (failed.failed.unsure.sure, doubt_is true e ∙ ap Some round_is);
               calls = r.tied.calls ++ call ∷ [];
               come = come;
-              called_for = failed_is (Some (round_by side (known r.m) asks));
+              called_for = failed_is (Some (round_by side (known_standing r.m) asks));
               sound = sound;
             };
             fills = λ stored fills. absurd (noting_filling r.m.count now.device.faults stored fills);

@@ -15,7 +15,7 @@ use Rattle.pb_object.specs.declared.limits.TheConstants.{MOST_CLIENTS}
 use Rattle.pb_layout_laws.proofs.FewRounds.{legal_few}
 use Rattle.pb_core.specs.declared.event.Stepped.TheVariants.{Went}
 use Rattle.pb_core.specs.Client.{Looking, Taking, Holding, is_holding}
-use Rattle.pb_core.specs.Memory.{Owner, Free, Held, AtNumber, Work, Settling, Scanning, Engine, Resting, Recorded, Doubtful, Memory, clients_of, side_of, round_of_turn, NoWork}
+use Rattle.pb_core.specs.Memory.{Owner, Free, Held, AtNumber, Work, Settling, Scanning, Engine, Resting, Recorded, Doubtful, Memory, clients_of, side_of_operation, round_of_turn, NoWork}
 use Rattle.pb_core.specs.MemoryParts.{IsMemory}
 use Rattle.pb_core.specs.WordMoves.{go_to, sees, steps_to, WordMove, taking_sure, taking_unsure, missing}
 use Rattle.pb_core.proofs.Basics.{with_at-same, with_at-other}
@@ -61,7 +61,7 @@ module _ {X : Type 0} (seen : X → EngineView) (kind : Kind) (start : EngineVie
   -- the turn was as it was found
   takes_hit : {s : State (Option X) (List PassView)} (r : Rule s) (id : ℕ) (v : PassView) (turn found : ℕ) (x : X) (work : Work) → get_elem? s.views id ≡ some (v ∷ []) → v.body.stage ≡ Taking turn found
       → r.m.turn ≡ turn → r.m.owner ≡ Free → seen x ≡ r.engine → s.homes ≡ some (Some x) ∷ [] → first_work (seen x).sure ≡ work
-      → WordMove r.m v.client (record (steps_to v.client Holding r.m) { turn = turn + 1; owner = Held v.client (side_of (r.m.book v.client).ask.op); work = work }) Went
+      → WordMove r.m v.client (record (steps_to v.client Holding r.m) { turn = turn + 1; owner = Held v.client (side_of_operation (r.m.book v.client).ask.op); work = work }) Went
       → Rule (record { words = set s.words 0 (turn + 1); homes = set s.homes 0 maybe.none; views = set s.views id (taken turn (seen x) v ∷ []) })
   takes_hit {s} r id v turn found x work at stage turn_is free engine_is homes work_is move =
       keeps_rule seen kind start r id v (taken turn (seen x) v) new r.engine r.faults (set s.words 0 (turn + 1)) (set s.homes 0 maybe.none) at
@@ -88,7 +88,7 @@ module _ {X : Type 0} (seen : X → EngineView) (kind : Kind) (start : EngineVie
       (λ d other. refl)
     where
       new : Memory
-      new = record (steps_to v.client Holding r.m) { turn = turn + 1; owner = Held v.client (side_of (r.m.book v.client).ask.op); work = work }
+      new = record (steps_to v.client Holding r.m) { turn = turn + 1; owner = Held v.client (side_of_operation (r.m.book v.client).ask.op); work = work }
 
       own : IsViewOf r.m r.engine v
       own = own_view seen kind start r id v at
@@ -104,7 +104,7 @@ module _ {X : Type 0} (seen : X → EngineView) (kind : Kind) (start : EngineVie
       same_asks =
           ap (λ (w : Work). failed_asks w (asked_by r.m.owner r.m.book) r.faults) idle ∙ (sym (first_asks (seen x).sure (asked_by new.owner new.book) r.faults) ∙ ap (λ (w : Work). failed_asks w (asked_by new.owner new.book) r.faults) work_is)
 
-      called_for : AreCalledFor start (record (steps_to v.client Holding r.m) { turn = turn + 1; owner = Held v.client (side_of (r.m.book v.client).ask.op); work = work }) r.faults r.tied.calls
+      called_for : AreCalledFor start (record (steps_to v.client Holding r.m) { turn = turn + 1; owner = Held v.client (side_of_operation (r.m.book v.client).ask.op); work = work }) r.faults r.tied.calls
       called_for = record {
         failed = subst (AreMadeFor r.tied.calls) same_asks r.tied.called_for.failed;
         next = subst (AreNextAtSettling start.standing (progress_of [] start) r.tied.calls) same_asks r.tied.called_for.next;
@@ -126,7 +126,7 @@ module _ {X : Type 0} (seen : X → EngineView) (kind : Kind) (start : EngineVie
 
   comes_hit : {s : State (Option X) (List PassView)} (r : Rule s) (id turn found met : ℕ) (me : Seated X) → met ≡ get_or s.words 0 0 → IsPlain me → get_elem? s.views id ≡ some (the_view me ∷ []) → (the_view me).body.stage ≡ Taking turn found → met ≡ turn → r.m.turn ≡ turn → r.m.owner ≡ Free
       → (x : X) → seen x ≡ r.engine → s.homes ≡ some (Some x) ∷ [] → (work : Work) → first_work (seen x).sure ≡ work
-      → WordMove r.m (the_view me).client (record (steps_to (the_view me).client Holding r.m) { turn = turn + 1; owner = Held (the_view me).client (side_of (r.m.book (the_view me).client).ask.op); work = work }) Went
+      → WordMove r.m (the_view me).client (record (steps_to (the_view me).client Holding r.m) { turn = turn + 1; owner = Held (the_view me).client (side_of_operation (r.m.book (the_view me).client).ask.op); work = work }) Went
       → Comes s id met (turn + 1) me
   comes_hit {s} r id turn found met me met_is plain here stage same turn_is free x seen_is homes work work_is move = (
     taken met (seen x) v ∷ [],

@@ -17,7 +17,7 @@ use Rattle.pb_core.specs.WordMoves.{go_to, sees, answered, own_row, WordMove, lo
 use Rattle.pb_engine.specs.View.{EngineView}
 use Rattle.pb_rule.specs.View.{Turn, Row, PassView}
 use Rattle.pb_rule.specs.Plays.{Seated, the_view, IsPlain, IsNoEarlier, with_view, first_look, last_look, confirmed_if, confirms, first_turn, reply_found, row_number, word_found, row_word_found}
-use Rattle.pb_rule.specs.Rule.{row_place, HasWords, HasFront, IsViewOf, HasRun, Keeps}
+use Rattle.pb_rule.specs.Rule.{row_place, HasWords, HasFront, IsViewOf, HasCoreRun, Keeps}
 use Rattle.pb_rule.specs.Seats.{IsRowPlace, at_code, at_value, at_extra}
 use Rattle.pb_rule.proofs.Runs.{moved_on}
 use Rattle.pb_rule.proofs.MadeRounds.{stays_open, is_answered}
@@ -35,7 +35,7 @@ module _ {X : Type 0} (seen : X → EngineView) (kind : Kind) (start : EngineVie
   stands s id me plain at = at ∙ ap some plain
 
   -- a step on a word is a move of the core
-  pub step_of : {s : State (Option X) (List PassView)} (r : Rule s) (c : ℕ) (new : Memory) (answer : Stepped) → c < clients_of r.m → WordMove r.m c new answer → HasRun start new
+  pub step_of : {s : State (Option X) (List PassView)} (r : Rule s) (c : ℕ) (new : Memory) (answer : Stepped) → c < clients_of r.m → WordMove r.m c new answer → HasCoreRun start new
   step_of r c new answer there move =
       moved_on r.run (stepped c answer (record { running = running seen kind start r; there = there; move = move }))
 
@@ -81,7 +81,7 @@ module _ {X : Type 0} (seen : X → EngineView) (kind : Kind) (start : EngineVie
       b : Client
       b = sees (LoadsNumber r.m.turn) r.m.turn (r.m.book (the_view me).client)
 
-      run : HasRun start (with_client (the_view me).client (sees (LoadsNumber r.m.turn) r.m.turn (r.m.book (the_view me).client)) r.m)
+      run : HasCoreRun start (with_client (the_view me).client (sees (LoadsNumber r.m.turn) r.m.turn (r.m.book (the_view me).client)) r.m)
       run = step_of r (the_view me).client (with_client (the_view me).client (sees (LoadsNumber r.m.turn) r.m.turn (r.m.book (the_view me).client)) r.m) Went own.there (looking (record {
         at = stage_of r (the_view me) Looking own stage;
         is = refl;
@@ -107,7 +107,7 @@ module _ {X : Type 0} (seen : X → EngineView) (kind : Kind) (start : EngineVie
       b : Client
       b = sees Looking r.m.turn (r.m.book (the_view me).client)
 
-      run : HasRun start (with_client (the_view me).client (sees Looking r.m.turn (r.m.book (the_view me).client)) r.m)
+      run : HasCoreRun start (with_client (the_view me).client (sees Looking r.m.turn (r.m.book (the_view me).client)) r.m)
       run = step_of r (the_view me).client (with_client (the_view me).client (sees Looking r.m.turn (r.m.book (the_view me).client)) r.m) _ own.there (finding_held (record {
         turn = first_turn (the_view me).body.stage;
         found = found_first;

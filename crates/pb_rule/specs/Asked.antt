@@ -8,7 +8,7 @@ use Rattle.pb_object.specs.Standing.{newest}
 use Rattle.pb_rule.specs.View.{PassView}
 
 -- a request of the pass's client under its next number
-pub record IsNextOf (kind : Kind) (v : PassView) (ask : Ask) : Type 0 where
+pub record IsNextRequestOf (kind : Kind) (v : PassView) (ask : Ask) : Type 0 where
   pub client : ask.client ≡ v.client
   pub there : ask.client < v.clients
   pub few_clients : v.clients ≤ 16

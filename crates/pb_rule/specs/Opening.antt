@@ -9,7 +9,7 @@ use Rattle.pb_core.specs.MemoryParts.{HasEntries, AreDated}
 use Rattle.pb_engine.specs.Calls.{EngineCall, Made, Failed, progress_of, AreMadeFor}
 use Rattle.pb_engine.specs.Good.{HasCome}
 use Rattle.pb_engine.specs.View.{EngineView, FailedRound, IsEngine}
-use Rattle.pb_rule.specs.Rule.{request_place, row_place, word_count, called_round, AreServed, Fault, AreApart, AreOfClients, fault_asks, met_by, AreNextAtSettling, HasAnswered, HasAskedFor}
+use Rattle.pb_rule.specs.Rule.{request_place, row_place, word_count, called_round, AreServed, Fault, AreIntervalsApart, AreOfClients, fault_asks, met_by, AreNextAtSettling, HasAnswered, HasAskedFor}
 use Rattle.pb_rule.specs.View.{PassView}
 
 abbrev pub first_of : List PassView → List PassView
@@ -33,9 +33,9 @@ abbrev pub IsThere : ℕ → List PassView → Type 0
 IsThere client [] = ⊥
 IsThere client (v ∷ views) = (v.client ≡ client) ⊎ IsThere client views
 
-abbrev pub AreFree : List PassView → Type 0
-AreFree [] = Unit {0}
-AreFree (v ∷ views) = (is_holding v.body.stage ≡ false) × AreFree views
+abbrev pub AreNotHolding : List PassView → Type 0
+AreNotHolding [] = Unit {0}
+AreNotHolding (v ∷ views) = (is_holding v.body.stage ≡ false) × AreNotHolding views
 
 -- What a pass knows at the end: it saw no more rounds than there are; its entries are those of its client, with those that its open request
 -- may have; each stands between the rounds that it had seen when it asked and when it was answered; the rounds that it served are those of
@@ -74,6 +74,6 @@ pub record HasEnded (kind : Kind) (start engine : EngineView) (views : List Pass
   pub next_at : AreNextAtSettling start.standing (progress_of [] start) calls (fault_asks faults)
   pub asked : (failed : FailedRound) (ops : List LogOp) → Contains calls (Failed failed ops) → (entry : Entry) → Contains failed.round.entries entry → OneOf (HasAskedFor entry) views
   pub made : (round : Round) (ops : List LogOp) → Contains calls (Made round ops) → OneOf (HasAnswered round) views
-  pub apart : AreApart 0 faults engine.device.faults
+  pub apart : AreIntervalsApart 0 faults engine.device.faults
   pub clients : AreOfClients start.standing.clients faults
   pub passes : AreEnded start.standing published ahead faults views

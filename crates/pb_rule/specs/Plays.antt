@@ -7,7 +7,7 @@ use Rattle.pb_object.specs.declared.request.Reply.{Reply}
 use Rattle.pb_object.specs.declared.kind.Kind.TheVariants.{Map}
 use Rattle.pb_object.specs.Standing.{Standing, empty_standing, newest_of}
 use Rattle.pb_core.specs.Client.{Stage, Idle, Storing, Looking, LoadsNumber, LoadsCode, LoadsValue, LoadsExtra, Confirming, Lacking, Taking, Holding, Client}
-use Rattle.pb_core.specs.Memory.{Part, AtNumber, AtCode, AtFirst, AtSecond, AtThird, Work, NoWork, Settling, Scanning, Calling, Filling, Noting, GivingUp, side_of, round_of_turn}
+use Rattle.pb_core.specs.Memory.{Part, AtNumber, AtCode, AtFirst, AtSecond, AtThird, Work, NoWork, Settling, Scanning, Calling, Filling, Noting, GivingUp, side_of_operation, round_of_turn}
 use Rattle.pb_core.specs.WordMoves.{go_to, sees, answered}
 use Rattle.pb_engine.specs.Asks.{MayBeServed, asked_round}
 use Rattle.pb_engine.specs.View.{EngineView, IsEngine, nothing_known}
@@ -132,21 +132,21 @@ first_turn (Lacking turn found) = turn
 first_turn (Taking turn found) = turn
 first_turn Holding = 0
 
-abbrev pub no_reply : Reply
-no_reply = record { code = 0; value = 0; extra = 0 }
+abbrev pub blank_reply : Reply
+blank_reply = record { code = 0; value = 0; extra = 0 }
 
 abbrev pub reply_found : Stage → Reply
-reply_found Idle = no_reply
-reply_found (Storing count) = no_reply
-reply_found Looking = no_reply
-reply_found (LoadsNumber turn) = no_reply
-reply_found (LoadsCode turn) = no_reply
-reply_found (LoadsValue turn code) = no_reply
-reply_found (LoadsExtra turn code value) = no_reply
+reply_found Idle = blank_reply
+reply_found (Storing count) = blank_reply
+reply_found Looking = blank_reply
+reply_found (LoadsNumber turn) = blank_reply
+reply_found (LoadsCode turn) = blank_reply
+reply_found (LoadsValue turn code) = blank_reply
+reply_found (LoadsExtra turn code value) = blank_reply
 reply_found (Confirming turn reply) = reply
-reply_found (Lacking turn found) = no_reply
-reply_found (Taking turn found) = no_reply
-reply_found Holding = no_reply
+reply_found (Lacking turn found) = blank_reply
+reply_found (Taking turn found) = blank_reply
+reply_found Holding = blank_reply
 
 abbrev pub confirms : ℕ → PassView → PassView
 confirms turn v = confirmed (first_turn v.body.stage) (reply_found v.body.stage) turn v
@@ -230,12 +230,12 @@ filling_now (GivingUp from to) = GivingUp from to
 
 -- Scanning
 
-abbrev pub ask_of : (client number code a b c : ℕ) → Ask
-ask_of client number code a b c = record { client = client; number = number; op = record { code = code; a = a; b = b; c = c } }
+abbrev pub ask_with : (client number code a b c : ℕ) → Ask
+ask_with client number code a b c = record { client = client; number = number; op = record { code = code; a = a; b = b; c = c } }
 
 -- a request is one of the round's where it is of the holder's side
 abbrev pub seen_with : (side : ℕ) → List Ask → Ask → List Ask
-seen_with side seen ask = if side_of ask.op == side then seen ++ ask ∷ [] else seen
+seen_with side seen ask = if side_of_operation ask.op == side then seen ++ ask ∷ [] else seen
 
 -- one word more of a request was loaded
 abbrev pub part_found : (kept : ℕ → ℕ) (side found client : ℕ) → Part → List Ask → Work
@@ -243,7 +243,7 @@ part_found kept side found d AtNumber seen = if found == kept d + 1 then Scannin
 part_found kept side found d (AtCode number) seen = Scanning d (AtFirst number found) seen
 part_found kept side found d (AtFirst number code) seen = Scanning d (AtSecond number code found) seen
 part_found kept side found d (AtSecond number code a) seen = Scanning d (AtThird number code a found) seen
-part_found kept side found d (AtThird number code a b) seen = Scanning (suc d) AtNumber (seen_with side seen (ask_of d number code a b found))
+part_found kept side found d (AtThird number code a b) seen = Scanning (suc d) AtNumber (seen_with side seen (ask_with d number code a b found))
 
 abbrev pub scan_found : (kept : ℕ → ℕ) (side found : ℕ) → Work → Work
 scan_found kept side found NoWork = NoWork
@@ -277,7 +277,7 @@ kept_number s client = (newest_of s client).number
 abbrev pub scanned_on : EngineView → ℕ → PassView → PassView
 scanned_on engine found v = record v {
   looked = v.looked ++ looked_by (kept_number engine.standing) found (scanning_now v.work);
-  work = scan_found (kept_number engine.standing) (side_of v.body.ask.op) found (scanning_now v.work);
+  work = scan_found (kept_number engine.standing) (side_of_operation v.body.ask.op) found (scanning_now v.work);
   hand = Some engine;
 }
 

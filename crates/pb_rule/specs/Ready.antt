@@ -24,7 +24,7 @@ pub record MadeRound (asks : List Ask) (old new : EngineView) : Type 0 where
   pub made : HasMade (asked_round old.standing asks) old new
   pub covers : RoundCovers (asked_round old.standing asks) old new
 
-pub record FailedRound (asks : List Ask) (fault : DeviceFault) (old new : EngineView) : Type 0 where
+pub record LeavesFailedRound (asks : List Ask) (fault : DeviceFault) (old new : EngineView) : Type 0 where
   pub failed : HasFailedToMake (asked_round old.standing asks) fault old new
   pub covers : FailedRoundCovers (asked_round old.standing asks) old new
 
@@ -37,7 +37,7 @@ pub data Ready (clients : ℕ) (work : Work) (before after : EngineView) (now : 
   recorded : (asks : List Ask) → work ≡ Scanning clients AtNumber asks → MadeRound asks before after → now ≡ Filling 0 → Ready clients work before after now
   failed_settling : (fault : DeviceFault) → work ≡ Settling → FailedSettling fault before after → now ≡ Noting before.device.faults after.device.faults
       → Ready clients work before after now
-  failed_round : (asks : List Ask) (fault : DeviceFault) → work ≡ Scanning clients AtNumber asks → FailedRound asks fault before after
+  failed_round : (asks : List Ask) (fault : DeviceFault) → work ≡ Scanning clients AtNumber asks → LeavesFailedRound asks fault before after
       → now ≡ Noting before.device.faults after.device.faults → Ready clients work before after now
 
 -- where a seat stands before a step of the holder: its view names the engine of its last step, and what it called since fits the step

@@ -11,8 +11,8 @@ use Rattle.pb_object.specs.declared.request.Ask.{Ask}
 use Rattle.pb_object.specs.declared.request.Reply.{Reply}
 use Rattle.pb_object.specs.History.{Entry, Round, History, state_after}
 use Rattle.pb_object.specs.Standing.{Standing, newest_of}
-use Rattle.pb_core.specs.Client.{Stage, Idle, Storing, Looking, LoadsNumber, LoadsCode, LoadsValue, LoadsExtra, Confirming, Lacking, Taking, Holding, Client, is_idle, is_holding, entry_by, no_ask}
-use Rattle.pb_core.specs.Memory.{Owner, Free, Held, Closed, Work, NoWork, Settling, Scanning, Calling, Filling, Noting, GivingUp, Engine, Resting, Recorded, Writing, Doubtful, Memory, clients_of, known, coming, round_of_turn}
+use Rattle.pb_core.specs.Client.{Stage, Idle, Storing, Looking, LoadsNumber, LoadsCode, LoadsValue, LoadsExtra, Confirming, Lacking, Taking, Holding, Client, is_idle, is_holding, entry_by, no_request}
+use Rattle.pb_core.specs.Memory.{Owner, Free, Held, Closed, Work, NoWork, Settling, Scanning, Calling, Filling, Noting, GivingUp, Engine, Resting, Recorded, Writing, Doubtful, Memory, clients_of, known_standing, coming, round_of_turn}
 use Rattle.pb_core.specs.MemoryParts.{own_entries}
 use Rattle.pb_core.specs.MemoryRun.{begun, MemoryRun}
 use Rattle.pb_engine.specs.Calls.{EngineCall, Made, Failed, Settled, FailedSettling, Progress, progress_of, after_call, HasRequest, AreMadeFor}
@@ -46,9 +46,9 @@ pub record Fault : Type 0 where
   pub client : ℕ
   pub met : Met
 
-abbrev pub AreApart : (low : ℕ) → List Fault → (high : ℕ) → Type 0
-AreApart low [] high = low ≤ high
-AreApart low (fault ∷ faults) high = (low ≤ fault.met.from) × Rose fault.met.from fault.met.to × AreApart fault.met.to faults high
+abbrev pub AreIntervalsApart : (low : ℕ) → List Fault → (high : ℕ) → Type 0
+AreIntervalsApart low [] high = low ≤ high
+AreIntervalsApart low (fault ∷ faults) high = (low ≤ fault.met.from) × Rose fault.met.from fault.met.to × AreIntervalsApart fault.met.to faults high
 
 abbrev pub AreOfClients : ℕ → List Fault → Type 0
 AreOfClients clients [] = Unit {0}
@@ -68,11 +68,11 @@ abbrev pub fault_asks : List Fault → List Ask
 fault_asks [] = []
 fault_asks (fault ∷ faults) = fault.met.ask ∷ fault_asks faults
 
--- the request that the holder of the turn has open, `no_ask` where nobody holds it
+-- the request that the holder of the turn has open, `no_request` where nobody holds it
 abbrev pub asked_by : Owner → (ℕ → Client) → Ask
-asked_by Free book = no_ask
+asked_by Free book = no_request
 asked_by (Held client side) book = (book client).ask
-asked_by Closed book = no_ask
+asked_by Closed book = no_request
 
 -- the requests of the calls that failed: of the faults that were answered, and the holder's, where its fault isn't noted yet
 abbrev pub failed_asks : Work → Ask → List Fault → List Ask
@@ -171,7 +171,7 @@ abbrev pub called_round : Option FailedRound → Option Round
 called_round None = None
 called_round (Some failed) = called_if failed.called failed.round
 
--- what is known of the device is what the engine knows; no step on a word is made while calls of the device are
+-- what is known_standing of the device is what the engine knows; no step on a word is made while calls of the device are
 abbrev pub SuitsEngine : Engine → Option Round → EngineView → Type 0
 SuitsEngine Resting ahead engine = engine.sure ≡ true
 SuitsEngine Recorded ahead engine = engine.sure ≡ true
@@ -186,7 +186,7 @@ recorded_by Writing ahead published = published
 recorded_by Doubtful ahead published = published
 
 pub record IsTied (kind : Kind) (start : EngineView) (m : Memory) (engine : EngineView) (faults : List Fault) : Type 0 where
-  pub standing : engine.standing ≡ known m
+  pub standing : engine.standing ≡ known_standing m
   pub count : engine.device.faults ≡ m.count
   pub suits : SuitsEngine m.engine m.ahead engine
   pub calls : List EngineCall
@@ -292,7 +292,7 @@ AreViews m engine faults place seat (v ∷ views) =
 -- All of it
 
 -- a run of the core's moves, from where the region was opened
-pub record HasRun (start : EngineView) (m : Memory) : Type 0 where
+pub record HasCoreRun (start : EngineView) (m : Memory) : Type 0 where
   pub moves : ℕ
   pub run : MemoryRun moves (begun start.standing start.device.faults) m
 
@@ -301,12 +301,12 @@ pub record Keeps {X : Type 0} (seen : X → EngineView) (kind : Kind) (start : E
   pub engine : EngineView
   pub faults : List Fault
   pub place : ℕ → ℕ
-  pub run : HasRun start m
+  pub run : HasCoreRun start m
   pub kept : length start.standing.kept ≡ start.standing.clients
   pub words : HasWords m s.words
   pub tied : IsTied kind start m engine faults
   pub lies : LiesAt seen m.owner engine s.homes
   pub below : IsBelow m.owner (clients_of m)
-  pub apart : AreApart 0 faults m.noted
+  pub apart : AreIntervalsApart 0 faults m.noted
   pub clients : AreOfClients (clients_of m) faults
   pub views : (seat : ℕ) (list : List PassView) → get_elem? s.views seat ≡ some list → AreViews m engine faults place seat list

@@ -4,7 +4,7 @@ ghost use Rattle.pb_object.specs.Standing.{newest_of};
 ghost use Rattle.pb_engine.specs.Asks.{MayBeServed};
 ghost use Rattle.pb_engine.specs.View.{IsEngine, was_called};
 ghost use Rattle.pb_rule.specs.Plays.{HoldsSlot, engine_now};
-ghost use Rattle.pb_rule.specs.Ready.{Settled, FailedSettling, MadeRound, FailedRound};
+ghost use Rattle.pb_rule.specs.Ready.{Settled, FailedSettling, MadeRound, LeavesFailedRound};
 
 use crate::board::{Board, Place};
 use arrayvec::ArrayVec;
@@ -72,7 +72,7 @@ pub fn make_round<E: Engine>(
     ensures views { seat.new.me.0 ≡ seat.old.me.0 }
     ensures holds { HoldsSlot seat.new.me }
     ensures ok { OnOk result (MadeRound asks.now.items (engine_now E.seen seat.old.me) (engine_now E.seen seat.new.me)) }
-    ensures err { IfErr result (λ fault. FailedRound asks.now.items fault (engine_now E.seen seat.old.me) (engine_now E.seen seat.new.me)) }
+    ensures err { IfErr result (λ fault. LeavesFailedRound asks.now.items fault (engine_now E.seen seat.old.me) (engine_now E.seen seat.new.me)) }
     ensures sound { IsEngine (engine_now E.seen seat.old.me).standing.kind (engine_now E.seen seat.new.me) }
 {
     match seat.slot_mut(board, 0) {

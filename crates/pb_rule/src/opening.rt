@@ -3,7 +3,7 @@ ghost use Rattle.std.specs.Prelude.{◌≡◌, ◌<◌, ◌≤◌, ◌+◌, ◌*
 ghost use Rattle.pb_core.specs.Client.{row_word as word_of_row};
 ghost use Rattle.pb_engine.specs.View.{IsEngine};
 ghost use Rattle.pb_object.specs.Standing.{Standing, newest_of};
-ghost use Rattle.pb_rule.specs.Opening.{HasStart, HasEnded, IsThere, AreFree, first_of, rest_of};
+ghost use Rattle.pb_rule.specs.Opening.{HasStart, HasEnded, IsThere, AreNotHolding, first_of, rest_of};
 ghost use Rattle.pb_rule.specs.Rule.{row_place, word_count};
 ghost use Rattle.pb_rule.specs.View.{fresh_views};
 
@@ -146,7 +146,7 @@ pub fn join_views<E: Engine>(board: &Board<E>, seat: &mut Place<E>, other: Place
 pub fn take_engine<E: Engine>(table: Words<E>, seat: Place<E>) -> E
     requires table { (seat.table_id ≡ table.shared.table_id) × (table.shared.table_id.slots ≡ 1) }
     requires all { (client : ℕ) → client < (E.seen table.shared.key.value).standing.clients → IsThere client seat.me.0 }
-    requires free { AreFree seat.me.0 }
+    requires free { AreNotHolding seat.me.0 }
     ensures { HasEnded (E.seen table.shared.key.value).standing.kind (E.seen table.shared.key.value)
         (E.seen result) seat.me.0 }
 {

@@ -15,9 +15,9 @@ pub trait Asking {
 }
 
 impl Asking for Brand {
-    ghost use Rattle.pb_core.specs.Client.{no_ask};
+    ghost use Rattle.pb_core.specs.Client.{no_request};
 
-    ghost ask = { no_ask };
+    ghost ask = { no_request };
 }
 
 /// The kind of the table's object, for contracts alone: the call that takes the turn picks it.

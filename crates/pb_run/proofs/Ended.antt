@@ -31,7 +31,8 @@ use Rattle.pb_rule.proofs.Members.{contains-here, contains-there, contains-none,
 use Rattle.pb_run.specs.Line.{met_ask}
 use Rattle.pb_run.specs.Lists.{asks_of}
 use Rattle.pb_run.specs.Run.{is_doubt, line_in_doubt, line_ask, asks_in_doubt, AreNewRecorded, AreCharged, HasNewLine, HasRun}
-use Rattle.pb_run.specs.Worker.{Line, is_new, new_count, doubt_count, own_history, IsPendingLine, IsSoFar}
+use Rattle.pb_run.specs.Worker.{Line, new_count, doubt_count, own_history, IsPendingLine, IsSoFar}
+use Rattle.pb_report.specs.SummaryText.{is_new}
 use Rattle.pb_run.proofs.Sums.{sum_below, sum-same, sum-most, tally, tally_with, AreBelow, tallies, tally-filter, tally-counts}
 
 -- Members

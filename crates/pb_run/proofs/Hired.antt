@@ -20,7 +20,7 @@ use Rattle.pb_run.specs.declared.lines.Lines.{Lines}
 use Rattle.pb_run.specs.Crew.{AreReady, IsThrough, AreThrough, HaveAsksOf, AreBroughtTogether, IsAskBelow}
 use Rattle.pb_run.specs.Lists.{asks_of, AreListsOf}
 use Rattle.pb_run.specs.Run.{HasRun}
-use Rattle.pb_run.specs.Worker.{Line, IsReady, IsSoFar}
+use Rattle.pb_run.specs.Worker.{Line, IsReadyToWork, IsSoFar}
 use Rattle.pb_run.proofs.Ended.{IsThroughFor, has_run}
 
 -- Passes as they are opened
@@ -54,7 +54,7 @@ own_asks : (client : ℕ) (asks : List Ask) → All (λ ask. ask.client ≡ clie
 own_asks client asks k d inside = let passes = filter_passes (λ (ask : Ask). eqb ask.client client) asks k d inside in grind (arith, nat_tests)
 
 fresh_ready : (kind : Kind) (start : EngineView) (object : SharedSeen) (k : ℕ) (asks : List Ask) → IsEngine kind start → object.start ≡ start → k < start.standing.clients → All (IsAskOf kind start.standing.clients) asks
-    → IsReady kind object (record { table = object.table; view = fresh_view start.standing.clients k (kept_list_of start.standing k) }) (asks_of k asks)
+    → IsReadyToWork kind object (record { table = object.table; view = fresh_view start.standing.clients k (kept_list_of start.standing k) }) (asks_of k asks)
 fresh_ready kind start object k asks sound of inside are = record {
   asks_are = λ j d there. record {
     of = here;
@@ -88,8 +88,8 @@ module _ {W : Type 0} (pass : W → PassSeen) (lines : W → Lines) {start : Eng
 
   pub all_ready : AreReady pass lines kind object workers
   all_ready k d inside =
-      subst (λ (p : PassSeen). IsReady kind object p (lines (slice_index_or workers k d)).asks.items) (sym (worker_pass k d inside))
-      (subst (IsReady kind object (record { table = object.table; view = fresh_view start.standing.clients k (kept_list_of start.standing k) })) (sym (worker_lines k d inside))
+      subst (λ (p : PassSeen). IsReadyToWork kind object p (lines (slice_index_or workers k d)).asks.items) (sym (worker_pass k d inside))
+      (subst (IsReadyToWork kind object (record { table = object.table; view = fresh_view start.standing.clients k (kept_list_of start.standing k) })) (sym (worker_lines k d inside))
       (fresh_ready kind start object k asks sound opened.of (omega (arith, inside, workers_many)) are))
 
   -- When they are through

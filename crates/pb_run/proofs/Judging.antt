@@ -5,14 +5,15 @@ use Rattle.std.proofs.lemmas.List.{map-append}
 use Rattle.pb_object.specs.declared.request.Ask.{Ask}
 use Rattle.pb_object.specs.declared.request.Kept.{Kept as KeptRequest}
 use Rattle.pb_object.specs.declared.request.Op.{Op}
-use Rattle.pb_object.specs.KeptLists.{IsKeptList, kept_number}
+use Rattle.pb_object.specs.KeptLists.{IsKeptList, kept_number, kept_with}
 use Rattle.pb_object.specs.Standing.{newest}
 use Rattle.pb_core.specs.Client.{Client}
 use Rattle.pb_core.specs.MemoryParts.{own_entries}
 use Rattle.pb_object.proofs.KeptLists.{at_most_newest}
 use Rattle.pb_report.specs.declared.outcome.Outcome.{Outcome}
 use Rattle.pb_report.specs.declared.outcome.Outcome.TheVariants as outcome
-use Rattle.pb_report.specs.Outcomes.{decided_outcome, is_same_op, kept_with, outcome_by}
+use Rattle.pb_report.specs.Outcomes.{decided_outcome, outcome_by}
+use Rattle.pb_object.specs.Request.{is_same_op}
 use Rattle.pb_rule.specs.View.{PassView}
 use Rattle.pb_shared.specs.declared.answers.Attempt.TheVariants.{Fault}
 use Rattle.pb_shared.specs.declared.answers.Again.{Again}

@@ -13,21 +13,23 @@ use Rattle.pb_object.specs.declared.request.Kept.{Kept as KeptRequest}
 use Rattle.pb_object.specs.declared.request.Reply.{Reply}
 use Rattle.pb_object.specs.declared.request.TheConstants.{LAST_NUMBER}
 use Rattle.pb_object.specs.History.{Entry, Round, History, kept_by}
-use Rattle.pb_object.specs.KeptLists.{IsKeptList}
+use Rattle.pb_object.specs.KeptLists.{IsKeptList, kept_with}
 use Rattle.pb_object.specs.Standing.{newest}
 use Rattle.pb_object.proofs.KeptLists.{keep_kept_list}
 use Rattle.pb_core.specs.Client.{Idle, Dated}
 use Rattle.pb_core.specs.MemoryParts.{own_entries}
 use Rattle.pb_report.specs.declared.outcome.Outcome.{Outcome}
 use Rattle.pb_report.specs.declared.outcome.Outcome.TheVariants.{New, Kept, Old, Gap, Changed, Doubt, Left}
-use Rattle.pb_report.specs.Outcomes.{GoesOn, IsLine, HasEntry, AreLines, ask_of, decided_outcome, entry_of, is_same_op, kept_with, outcome_by}
+use Rattle.pb_report.specs.Outcomes.{GoesOn, IsLine, HasEntry, AreLines, ask_of, decided_outcome, entry_of, outcome_by}
+use Rattle.pb_object.specs.Request.{is_same_op}
 use Rattle.pb_report.specs.GoingOn.{is_ending, kept_next}
 use Rattle.pb_report.proofs.GoingOn.{IsNextLine, HasEntriesOf}
 use Rattle.pb_rule.specs.View.{PassView}
 use Rattle.pb_shared.specs.Passes.{PassSeen, SharedSeen}
 use Rattle.pb_run.specs.Line.{met_ask, DecidesOrTries, RunsLine, IsServed, StaysOpen, TriesAsk, ends_run}
 use Rattle.pb_run.specs.Run.{is_doubt, line_in_doubt, line_ask, asks_in_doubt}
-use Rattle.pb_run.specs.Worker.{Line, is_new, own_history, IsPendingLine, IsSoFar, IsReady}
+use Rattle.pb_run.specs.Worker.{Line, own_history, IsPendingLine, IsSoFar, IsReadyToWork}
+use Rattle.pb_report.specs.SummaryText.{is_new}
 use Rattle.pb_run.proofs.LineLemmas.{IsClientSoFar, next_line, left_line, zip-push}
 
 -- Counts
@@ -245,7 +247,7 @@ no_lines : (history : History) (kept : List KeptRequest) → AreLines history ke
 unfolding AreLines
 no_lines history kept = tt
 
-pub at_first : {kind : Kind} {object : SharedSeen} {pass : PassSeen} {asks : List Ask} → IsReady kind object pass asks → IsSoFar pass.view.body.kept [] false pass.view
+pub at_first : {kind : Kind} {object : SharedSeen} {pass : PassSeen} {asks : List Ask} → IsReadyToWork kind object pass asks → IsSoFar pass.view.body.kept [] false pass.view
 at_first {pass = pass} ready = record {
   are = no_lines (own_history pass.view) pass.view.body.kept;
   ended = refl;
@@ -270,7 +272,7 @@ pub record IsRunTo (first : List KeptRequest) (asks : List Ask) (list : List Out
   pub so : IsSoFar first (zip (take place asks) (take place list)) left v
   pub places : length list ≡ length asks
 
-pub at_start : {kind : Kind} {object : SharedSeen} {pass : PassSeen} (asks : List Ask) (list : List Outcome) → length list ≡ length asks → IsReady kind object pass asks → IsRunTo pass.view.body.kept asks list 0 false pass.view
+pub at_start : {kind : Kind} {object : SharedSeen} {pass : PassSeen} (asks : List Ask) (list : List Outcome) → length list ≡ length asks → IsReadyToWork kind object pass asks → IsRunTo pass.view.body.kept asks list 0 false pass.view
 at_start {pass = pass} asks list places ready = record { so = at_first ready; places = places }
 
 pub one_further : (first : List KeptRequest) (asks : List Ask) (list : List Outcome) (place : ℕ) (left : Bool) (v w : PassView) (d : Ask) (o : Outcome)

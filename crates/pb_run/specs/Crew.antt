@@ -8,14 +8,14 @@ use Rattle.pb_report.specs.Outcomes.{lines_of_client}
 use Rattle.pb_shared.specs.Passes.{PassSeen, SharedSeen}
 use Rattle.pb_run.specs.declared.lines.Lines.{Lines}
 use Rattle.pb_run.specs.Lists.{asks_of}
-use Rattle.pb_run.specs.Worker.{IsReady, HasWorked}
+use Rattle.pb_run.specs.Worker.{IsReadyToWork, HasWorked}
 
 -- workers, each with a pass and lines
 module _ {W : Type 0} (pass : W → PassSeen) (lines : W → Lines) where
   abbrev pub AreReady : Kind → SharedSeen → List W → Type 0
   AreReady kind object workers =
       (k : ℕ) (d : W) → k < length workers
-      → IsReady kind object (pass (slice_index_or workers k d)) (lines (slice_index_or workers k d)).asks.items
+      → IsReadyToWork kind object (pass (slice_index_or workers k d)) (lines (slice_index_or workers k d)).asks.items
 
   -- one worked
   pub record IsThrough (object : SharedSeen) (old new : W) : Type 0 where
@@ -53,5 +53,5 @@ abbrev pub IsAskBelow : ℕ → Ask → Type 0
 IsAskBelow clients ask = ask.client < clients
 
 -- how many requests of each client come before a place
-abbrev pub AreCounted : List Ask → ℕ → List ℕ → Type 0
-AreCounted before clients next = (client : ℕ) → client < clients → slice_index_or next client 0 ≡ length (asks_of client before)
+abbrev pub AreCountedByClient : List Ask → ℕ → List ℕ → Type 0
+AreCountedByClient before clients next = (client : ℕ) → client < clients → slice_index_or next client 0 ≡ length (asks_of client before)

@@ -1,5 +1,5 @@
 -- What holds of a client while its worker asks.
-use Rattle.std.specs.Prelude.{◌≡◌, ◌⊎◌, ℕ, Bool, true, false, List, [], ◌∷◌, length, All, Contains, count_by}
+use Rattle.std.specs.Prelude.{◌≡◌, ◌⊎◌, ℕ, Bool, false, List, [], ◌∷◌, length, All, Contains, count_by}
 use Rattle.std.specs.List.{zip}
 use Rattle.pb_object.specs.declared.kind.Kind.{Kind}
 use Rattle.pb_object.specs.declared.request.Ask.{Ask}
@@ -18,13 +18,10 @@ use Rattle.pb_script.specs.Script.{IsAskOf}
 use Rattle.pb_shared.specs.Passes.{PassSeen, SharedSeen, IsOf}
 use Rattle.pb_run.specs.Line.{asks_met}
 use Rattle.pb_run.specs.Run.{is_doubt, asks_in_doubt}
+use Rattle.pb_report.specs.SummaryText.{is_new}
 
 abbrev pub Line : Type 0
 Line = Ask × Outcome
-
-abbrev pub is_new : Outcome → Bool
-is_new (New reply) = true
-is_new _ = false
 
 abbrev pub new_count : List Line → ℕ
 new_count lines = count_by (λ line. is_new line.1) lines
@@ -63,7 +60,7 @@ pub record IsSoFar (first : List KeptRequest) (lines : List Line) (left : Bool) 
   pub doubts : asks_met v ≡ asks_in_doubt lines
 
 -- a pass that has asked for nothing yet, and requests of its client
-pub record IsReady (kind : Kind) (object : SharedSeen) (pass : PassSeen) (asks : List Ask) : Type 0 where
+pub record IsReadyToWork (kind : Kind) (object : SharedSeen) (pass : PassSeen) (asks : List Ask) : Type 0 where
   pub asks_are : All (IsLineOf kind object pass) asks
   pub of : IsOf object pass
   pub kept : IsKeptList pass.view.body.kept

@@ -2,7 +2,7 @@
 ghost use Rattle.std.specs.Prelude.{◌≡◌, ◌<◌, ◌≤◌, ◌+◌, ◌∷◌, [], All, length, map, vec_len, vec_capacity, slice_index_or, slice_set};
 ghost use Rattle.pb_object.specs.declared.limits.TheConstants.{MOST_CLIENTS};
 ghost use Rattle.pb_run.specs.Crew.{AreReady, IsThrough, AreThrough, HaveAsksOf, AreBroughtTogether, HasLine, HasOutcome, IsAskBelow};
-ghost use Rattle.pb_run.specs.Worker.{IsReady};
+ghost use Rattle.pb_run.specs.Worker.{IsReadyToWork};
 
 use crate::lines::Lines;
 use crate::worker::{Worker, work};
@@ -76,7 +76,7 @@ pub fn work_all<R: Wait + Threads + Sync, E: Engine + Send, G: Gate>(
         workers.as_mut_slice(),
         threads,
         &|_, worker|
-            requires { IsReady object.now.start.standing.kind object.now worker.now.pass worker.now.lines.asks.items }
+            requires { IsReadyToWork object.now.start.standing.kind object.now worker.now.pass worker.now.lines.asks.items }
             ensures { IsThrough (λ w. w.pass) (λ w. w.lines) object.entry.now worker.entry.now worker.exit.now }
         { work(rt, object, worker, gate) },
     );

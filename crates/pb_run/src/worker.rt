@@ -2,7 +2,7 @@
 ghost use Rattle.std.specs.Prelude.{◌≡◌, false};
 ghost use Rattle.pb_shared.specs.Passes.{IsOf, IsIdle, IsPending};
 ghost use Rattle.pb_run.specs.Line.{RunsLine, TriesAsk, ends_run};
-ghost use Rattle.pb_run.specs.Worker.{IsReady, HasWorked, IsLineOf};
+ghost use Rattle.pb_run.specs.Worker.{IsReadyToWork, HasWorked, IsLineOf};
 
 use crate::lines::Lines;
 use pb_engine::Engine;
@@ -27,7 +27,7 @@ pub fn work<R: Wait, E: Engine, G: Gate>(
     worker: &mut Worker<E>,
     gate: &G,
 )
-    requires { IsReady object.now.start.standing.kind object.now worker.old.pass worker.old.lines.asks.items }
+    requires { IsReadyToWork object.now.start.standing.kind object.now worker.old.pass worker.old.lines.asks.items }
     ensures asks { worker.new.lines.asks.items ≡ worker.old.lines.asks.items }
     ensures worked { HasWorked object.now worker.old.pass worker.old.lines.asks.items worker.new.lines.outcomes.items worker.new.pass }
 {

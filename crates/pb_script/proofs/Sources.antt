@@ -10,7 +10,7 @@ use Rattle.pb_object.specs.declared.request.Ask.{Ask}
 use Rattle.pb_script.specs.declared.script.Reading.{Reading}
 use Rattle.pb_script.specs.declared.script.ScriptFault.{ScriptFault}
 use Rattle.pb_script.specs.declared.script.ScriptFault.TheVariants.{Memory, Many, Line}
-use Rattle.pb_script.specs.Reading.{known, Holds, HoldsMore, IsFinished}
+use Rattle.pb_script.specs.Reading.{some_number, Holds, HoldsMore, IsFinished}
 use Rattle.pb_script.specs.Request.{each, request_of}
 use Rattle.pb_script.specs.Script.{IsAnswer, IsReadAs, IsScript, IsShort, request_lines}
 use Rattle.pb_script.specs.Words.{lines}
@@ -44,7 +44,7 @@ Progress_none kind clients source reading asks last many lines requests refused 
     requests = requests ∙ sym (ap length request_lines_none);
     last = many;
     few = omega arith;
-    script = rw (refused, asks) (no_lines kind clients, λ client l. sym (ap known (last client)));
+    script = rw (refused, asks) (no_lines kind clients, λ client l. sym (ap some_number (last client)));
   };
   room = omega arith;
 }

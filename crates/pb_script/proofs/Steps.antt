@@ -10,7 +10,7 @@ use Rattle.pb_object.specs.declared.request.Ask.{Ask}
 use Rattle.pb_script.specs.Request.{each, request_of}
 use Rattle.pb_script.specs.declared.script.Reading.{Reading}
 use Rattle.pb_script.specs.declared.script.TheConstants.{MOST_REQUESTS}
-use Rattle.pb_script.specs.Reading.{known, FollowsLast, Holds, HoldsLast}
+use Rattle.pb_script.specs.Reading.{some_number, FollowsLast, Holds, HoldsLast}
 use Rattle.pb_script.specs.Script.{Follows, IsRefused, IsScript, NumbersFollow, last_number, request_lines}
 use Rattle.pb_script.specs.Words.{fields, is_request}
 use Rattle.pb_script.proofs.Arguments.{each_push, each_front}
@@ -113,7 +113,7 @@ IsRefused_now kind clients read line asks h none = record {
   none = λ all script. none all (rw (take_all (length read + 1) (read ++ line ∷ []) (omega (arith, length_push read line))) at script);
 }
 
-known_some : (n : ℕ) → 1 ≤ n → known n ≡ Some n
+known_some : (n : ℕ) → 1 ≤ n → some_number n ≡ Some n
 known_some n some = cond-false (eqb n 0) None (Some n) (ne_eqb n 0 (λ e. omega arith))
 
 last_number_push : (client : ℕ) (asks : List Ask) (ask : Ask) → last_number client (asks ++ ask ∷ []) ≡ cond (eqb ask.client client) (Some ask.number) (last_number client asks)
@@ -125,10 +125,10 @@ HoldsLast_push last asks ask len within some h = λ client l.
     ⊎_elim
     (λ (e : ask.client ≡ client).
     last_number_push client asks ask ∙ cond-true (eqb ask.client client) _ _ (eq-eqb ask.client client e)
-    ∙ sym (ap known (ap (λ k. get_or (set last ask.client ask.number) k 0) (sym e) ∙ get_or-set_same last ask.client ask.number 0 (omega arith)) ∙ known_some ask.number some))
+    ∙ sym (ap some_number (ap (λ k. get_or (set last ask.client ask.number) k 0) (sym e) ∙ get_or-set_same last ask.client ask.number 0 (omega arith)) ∙ known_some ask.number some))
     (λ (e : ask.client ≡ client → ⊥).
     last_number_push client asks ask ∙ cond-false (eqb ask.client client) _ _ (ne_eqb ask.client client e)
-    ∙ h client l ∙ sym (ap known (get_or-set_other last ask.client client ask.number 0 (λ f. e (sym f)))))
+    ∙ h client l ∙ sym (ap some_number (get_or-set_other last ask.client client ask.number 0 (λ f. e (sym f)))))
     (cases_eq ask.client client)
 
 pub Follows-from_last : (last : List ℕ) (asks : List Ask) (ask : Ask) → ask.client < 16 → HoldsLast last asks → FollowsLast last ask → Follows asks ask

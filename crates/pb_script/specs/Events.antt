@@ -65,8 +65,8 @@ abbrev pub repeated : Event → ℕ → Repeat
 repeated event times = record { event = event; times = times }
 
 -- `CLIENT NUMBER OPERATION`
-unfoldable pub ask_of : Kind → ℕ → List (List ℕ) → Option Repeat
-ask_of kind clients words = do
+unfoldable pub ask_event_of : Kind → ℕ → List (List ℕ) → Option Repeat
+ask_event_of kind clients words = do
   ask ← asked_of kind clients words
   Some (repeated (AskEvent ask) 1)
 
@@ -112,7 +112,7 @@ region_event_with word others =
 
 abbrev pub event_with : Kind → ℕ → List ℕ → List (List ℕ) → Option Repeat
 event_with kind clients word others =
-    if bytes_eq word (codes "ask") then ask_of kind clients others else
+    if bytes_eq word (codes "ask") then ask_event_of kind clients others else
     (if bytes_eq word (codes "step") then step_of clients others else
     (if bytes_eq word (codes "fail") then fail_of clients others else region_event_with word others))
 

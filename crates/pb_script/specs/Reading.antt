@@ -11,16 +11,16 @@ use Rattle.pb_script.specs.declared.script.TheConstants.{MOST_REQUESTS}
 use Rattle.pb_script.specs.Script.{IsScript, IsRefused, last_number, request_lines}
 
 -- a client's last number, where 0 stands for none
-abbrev pub known : ℕ → Option ℕ
-known number = if number == 0 then None else Some number
+abbrev pub some_number : ℕ → Option ℕ
+some_number number = if number == 0 then None else Some number
 
 -- a request follows, by the last numbers that are held
 abbrev pub FollowsLast : List ℕ → Ask → Type 0
-FollowsLast last ask = IfSome (known (slice_index last ask.client)) (λ number. ask.number ≡ number + 1)
+FollowsLast last ask = IfSome (some_number (slice_index last ask.client)) (λ number. ask.number ≡ number + 1)
 
 -- the last numbers are those of these requests
 abbrev pub HoldsLast : List ℕ → List Ask → Type 0
-HoldsLast last asks = (client : ℕ) → client < MOST_CLIENTS → last_number client asks ≡ known (slice_index last client)
+HoldsLast last asks = (client : ℕ) → client < MOST_CLIENTS → last_number client asks ≡ some_number (slice_index last client)
 
 -- the lines are a script of the requests that are held, or one of them is the first refused
 abbrev pub HoldsScript : Kind → ℕ → List (List ℕ) → Reading → Type 0

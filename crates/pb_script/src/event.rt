@@ -1,7 +1,7 @@
 //! How the fields of a line name events.
 ghost use Rattle.std.specs.Prelude.{◌≡◌, ◌<◌, ◌≤◌, IfSome};
 ghost use Rattle.std.specs.Option.{option_map};
-ghost use Rattle.pb_script.specs.Events.{any_number, if_last, times_of, torn_of, how_of, asked_of, ask_of, step_of, fail_of, crash_of, open_of, openfail_of, region_event_with, event_of, repeated, event_line};
+ghost use Rattle.pb_script.specs.Events.{any_number, if_last, times_of, torn_of, how_of, asked_of, ask_event_of, step_of, fail_of, crash_of, open_of, openfail_of, region_event_with, event_of, repeated, event_line};
 ghost use Rattle.pb_script.specs.Words.{words, fields};
 
 use crate::request::{next_number, number_within, read_op};
@@ -85,9 +85,9 @@ fn read_region_event(word: &[u8], rest: &[u8]) -> Option<Repeat>
     }
 }
 
-#[tactic(auto, unfolding(crate::specs::Events::ask_of))]
+#[tactic(auto, unfolding(crate::specs::Events::ask_event_of))]
 fn read_ask(text: &[u8], kind: Kind, clients: u32) -> Option<Repeat>
-    ensures { result ≡ ask_of kind clients (words text.now) }
+    ensures { result ≡ ask_event_of kind clients (words text.now) }
 {
     let ask = read_asked(text, kind, clients)?;
     Some(Repeat::new(Event::Ask(ask), 1))

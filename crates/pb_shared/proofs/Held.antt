@@ -13,7 +13,7 @@ use Rattle.pb_object.specs.History.{Entry, kept_by, after_round}
 use Rattle.pb_object.specs.Object.{State, next_state}
 use Rattle.pb_object.specs.Standing.{Standing, newest_of}
 use Rattle.pb_core.specs.Client.{Looking, Client}
-use Rattle.pb_core.specs.Memory.{AtNumber, Work, Settling, Scanning, side_of}
+use Rattle.pb_core.specs.Memory.{AtNumber, Work, Settling, Scanning, side_of_operation}
 use Rattle.pb_core.specs.WordMoves.{answered}
 use Rattle.pb_core.proofs.Histories.{shape_after}
 use Rattle.pb_engine.specs.Asks.{MayBeServed, answered_from, asked_round}
@@ -23,7 +23,7 @@ use Rattle.pb_engine.proofs.Joining.{round_kept}
 use Rattle.pb_engine.proofs.Served.{answered_from-none, answered_from-more, served_is_legal}
 use Rattle.pb_rule.specs.View.{Turn, Row, Look, OwnRound, PassView, view_in, numbers_of}
 use Rattle.pb_rule.specs.Plays.{Seated, the_view, IsPlain, HoldsSlot, engine_or, engine_before, engine_now, scanning_now, filling_now, own_by, own_round, published_body, first_work, AsksFor}
-use Rattle.pb_rule.specs.Ready.{Settled, FailedSettling, MadeRound, FailedRound as FailedMaking, untouched, settled_none, settled_round, recorded, failed_settling, failed_round}
+use Rattle.pb_rule.specs.Ready.{Settled, FailedSettling, MadeRound, LeavesFailedRound as FailedMaking, untouched, settled_none, settled_round, recorded, failed_settling, failed_round}
 use Rattle.pb_shared.specs.declared.answers.Attempt.TheVariants.{Done, Busy, Fault}
 use Rattle.pb_shared.specs.Combined.{HasLooked, ask_of_entry}
 use Rattle.pb_shared.specs.Filling.{IsFilling, after_publishing}
@@ -281,16 +281,16 @@ module _ {X : Type 0} (seen : X → EngineView) (kind : Kind) where
         let mine : AsksFor (the_view other).client (the_view other).body.ask.number asks = subst (λ (u : PassView). AsksFor u.client u.body.ask.number asks) (sym view_is) for in
         ap (λ (t : Standing). (newest_of t (the_view other).client).number) made.made.standing ∙ own_recorded s asks (the_view other).client (the_view other).body.ask.number h.after.ready.sound.kept.count may mine
 
-    pub made_serves : HasLooked clients (side_of start.body.ask.op) (numbers_of engine.standing) looked asks → (w : PassView) → w ≡ after_publishing (engine_now seen other) (own_by (engine_before other) (the_view other).body.front (the_view other).work (the_view other).own) (the_view other) → w.body.ask ≡ start.body.ask → w.body.front ≡ suc (the_view other).body.front → Serves start.looked start w
+    pub made_serves : HasLooked clients (side_of_operation start.body.ask.op) (numbers_of engine.standing) looked asks → (w : PassView) → w ≡ after_publishing (engine_now seen other) (own_by (engine_before other) (the_view other).body.front (the_view other).work (the_view other).own) (the_view other) → w.body.ask ≡ start.body.ask → w.body.front ≡ suc (the_view other).body.front → Serves start.looked start w
     unfolding the_own
     made_serves has w is ask_is front_is = inr (record {
       own = the_own;
       served = ap (λ (u : PassView). u.served) is ∙ (λ i. (rest_is i).served ++ own_round (own_here i));
       round = sym front_is;
-      combined = subst (λ (l : List Ask). HasLooked w.clients (side_of w.body.ask.op) the_own.kept w.looked l) (sym (asked_entries engine.standing.state asks))
-          (subst (λ (l : List Look). HasLooked w.clients (side_of w.body.ask.op) the_own.kept l asks) (sym looked_is)
-          (subst (λ (a : Ask). HasLooked w.clients (side_of a.op) the_own.kept looked asks) (sym ask_is)
-          (subst (λ (n : ℕ). HasLooked n (side_of start.body.ask.op) the_own.kept looked asks) (all_clients ∙ sym (ap (λ (u : PassView). u.clients) is)) has)));
+      combined = subst (λ (l : List Ask). HasLooked w.clients (side_of_operation w.body.ask.op) the_own.kept w.looked l) (sym (asked_entries engine.standing.state asks))
+          (subst (λ (l : List Look). HasLooked w.clients (side_of_operation w.body.ask.op) the_own.kept l asks) (sym looked_is)
+          (subst (λ (a : Ask). HasLooked w.clients (side_of_operation a.op) the_own.kept looked asks) (sym ask_is)
+          (subst (λ (n : ℕ). HasLooked n (side_of_operation start.body.ask.op) the_own.kept looked asks) (all_clients ∙ sym (ap (λ (u : PassView). u.clients) is)) has)));
     })
       where
         looked_is : w.looked ≡ looked

@@ -7,7 +7,7 @@ use Rattle.pb_object.specs.declared.request.Ask.{Ask}
 use Rattle.pb_object.specs.declared.request.Kept.{Kept}
 use Rattle.pb_object.specs.declared.request.Op.{Op}
 use Rattle.pb_object.specs.Standing.{Standing}
-use Rattle.pb_core.specs.Memory.{side_of}
+use Rattle.pb_core.specs.Memory.{side_of_operation}
 use Rattle.pb_rule.specs.View.{Look, numbers_of, newest_number}
 use Rattle.pb_rule.specs.Plays.{kept_number, seen_with}
 use Rattle.pb_shared.specs.Combined.{is_due, asked_if, due_if, due_asks, InOrder, AreLoaded, HasLooked}
@@ -59,7 +59,7 @@ looked_over s client side number looked asks other has =
 pub looked_due : (s : Standing) (client side number : ℕ) (op : Op) (looked : List Look) (asks : List Ask) → number ≡ kept_number s client + 1 → HasLooked client side (numbers_of s) looked asks
     → HasLooked (client + 1) side (numbers_of s) (looked ++ record { client = client; number = number; op = Some op } ∷ []) (seen_with side asks (record { client = client; number = number; op = op }))
 looked_due s client side number op looked asks same has =
-    looked_more look (seen_with side asks ask) refl (λ e none. some_none (sym none)) (by (eqb (side_of op) side) ∙ ap (λ (b : Bool). asks ++ due_if b side look) (sym due)) has
+    looked_more look (seen_with side asks ask) refl (λ e none. some_none (sym none)) (by (eqb (side_of_operation op) side) ∙ ap (λ (b : Bool). asks ++ due_if b side look) (sym due)) has
   where
     look : Look
     look = record { client = client; number = number; op = Some op }

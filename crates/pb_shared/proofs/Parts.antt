@@ -3,7 +3,7 @@ use Rattle.std.proofs.Common.{◌≡◌, ℕ, suc, ◌+◌, eqb, Bool, true, fal
 use Rattle.std.specs.Prelude.{if◌then◌else◌}
 use Rattle.pb_object.specs.declared.kind.Kind.{Kind}
 use Rattle.pb_object.specs.declared.request.Ask.{Ask}
-use Rattle.pb_core.specs.Memory.{Part, AtNumber, AtCode, AtFirst, AtSecond, AtThird, Work, Scanning, side_of}
+use Rattle.pb_core.specs.Memory.{Part, AtNumber, AtCode, AtFirst, AtSecond, AtThird, Work, Scanning, side_of_operation}
 use Rattle.pb_engine.specs.View.{EngineView}
 use Rattle.pb_rule.specs.View.{Look, PassView}
 use Rattle.pb_rule.specs.Holding.{part_place, IsScanPlace}
@@ -27,8 +27,8 @@ module _ {X : Type 0} (seen : X → EngineView) (kind : Kind) where
   pub same_clients : (v w : PassView) → blank v ≡ blank w → v.clients ≡ w.clients
   same_clients v w same = ap (λ (u : PassView). u.clients) same
 
-  pub same_side : (v w : PassView) → blank v ≡ blank w → side_of v.body.ask.op ≡ side_of w.body.ask.op
-  same_side v w same = ap (λ (u : PassView). side_of u.body.ask.op) same
+  pub same_side : (v w : PassView) → blank v ≡ blank w → side_of_operation v.body.ask.op ≡ side_of_operation w.body.ask.op
+  same_side v w same = ap (λ (u : PassView). side_of_operation u.body.ask.op) same
 
   pub scan_place : {start : PassView} {engine : EngineView} {asks : List Ask} {looked : List Look} {me : Seated X} (client place : ℕ) (part : Part) → place ≡ part_place part → IsAtPart seen kind start engine client part asks looked me → IsScanPlace (scanning_now (the_view me).work) client place
   scan_place {asks = asks} client place part is at =
@@ -40,7 +40,7 @@ module _ {X : Type 0} (seen : X → EngineView) (kind : Kind) where
   after_load {start} {engine} {part} {asks} {looked} {me} client found new at is over =
       subst (IsAfter seen kind start engine (next_work engine start client found part asks) (next_looked engine client found part looked)) (sym is) (record {
         ready = ready;
-        work_is = ap (scan_found (kept_number now.standing) (side_of v.body.ask.op) found) at.at ∙ (λ i. part_found (kept_number (at.now i).standing) (same_side v start at.rest i) found client part asks);
+        work_is = ap (scan_found (kept_number now.standing) (side_of_operation v.body.ask.op) found) at.at ∙ (λ i. part_found (kept_number (at.now i).standing) (same_side v start at.rest i) found client part asks);
         hand = ap Some at.now;
         now = at.now;
         clients = at.clients;
@@ -56,13 +56,13 @@ module _ {X : Type 0} (seen : X → EngineView) (kind : Kind) where
       now = engine_now seen me
 
       work : Work
-      work = scan_found (kept_number (engine_now seen me).standing) (side_of (the_view me).body.ask.op) found (scanning_now (the_view me).work)
+      work = scan_found (kept_number (engine_now seen me).standing) (side_of_operation (the_view me).body.ask.op) found (scanning_now (the_view me).work)
 
       -- a scan is a scan still
       still : (w : Work) (d : ℕ) (p : Part) (l : List Ask) → w ≡ Scanning d p l → scanning_now w ≡ w
       still w d p l e = ap scanning_now e ∙ sym e
 
-      next_part : (n : ℕ) (p : Part) → (d : ℕ) × (q : Part) × (l : List Ask) × (part_found (kept_number (engine_now seen me).standing) (side_of (the_view me).body.ask.op) found n p asks ≡ Scanning d q l)
+      next_part : (n : ℕ) (p : Part) → (d : ℕ) × (q : Part) × (l : List Ask) × (part_found (kept_number (engine_now seen me).standing) (side_of_operation (the_view me).body.ask.op) found n p asks ≡ Scanning d q l)
       next_part n AtNumber = go (eqb found (kept_number now.standing n + 1))
         where
           go : (b : Bool) → (d : ℕ) × (q : Part) × (l : List Ask) × ((if b then Scanning n (AtCode found) asks else Scanning (suc n) AtNumber asks) ≡ Scanning d q l)
@@ -73,10 +73,10 @@ module _ {X : Type 0} (seen : X → EngineView) (kind : Kind) where
       next_part n (AtSecond number code a) = (n, AtThird number code a found, asks, refl)
       next_part n (AtThird number code a b) = (suc n, AtNumber, _, refl)
 
-      again : scanning_now (scan_found (kept_number (engine_now seen me).standing) (side_of (the_view me).body.ask.op) found (scanning_now (the_view me).work)) ≡ scan_found (kept_number (engine_now seen me).standing) (side_of (the_view me).body.ask.op) found (scanning_now (the_view me).work)
+      again : scanning_now (scan_found (kept_number (engine_now seen me).standing) (side_of_operation (the_view me).body.ask.op) found (scanning_now (the_view me).work)) ≡ scan_found (kept_number (engine_now seen me).standing) (side_of_operation (the_view me).body.ask.op) found (scanning_now (the_view me).work)
       again =
           let is_next = next_part client part in
-          still work is_next.0 is_next.1 is_next.2 (ap (scan_found (kept_number now.standing) (side_of v.body.ask.op) found) at.at ∙ is_next.3)
+          still work is_next.0 is_next.1 is_next.2 (ap (scan_found (kept_number now.standing) (side_of_operation v.body.ask.op) found) at.at ∙ is_next.3)
 
       ready : IsReadyFor seen kind scanning_now (scan_step seen found me)
       ready = record {

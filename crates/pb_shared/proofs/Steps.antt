@@ -5,7 +5,7 @@ use Rattle.std.proofs.lemmas.List.{append-nil}
 use Rattle.pb_object.specs.declared.kind.Kind.{Kind}
 use Rattle.pb_object.specs.declared.request.Ask.{Ask}
 use Rattle.pb_object.specs.declared.request.Op.{Op}
-use Rattle.pb_core.specs.Memory.{Part, AtNumber, AtCode, Work, Scanning, side_of}
+use Rattle.pb_core.specs.Memory.{Part, AtNumber, AtCode, Work, Scanning, side_of_operation}
 use Rattle.pb_engine.specs.View.{EngineView}
 use Rattle.pb_rule.specs.View.{Look, PassView, numbers_of}
 use Rattle.pb_rule.specs.Holding.{part_place}
@@ -34,12 +34,12 @@ module _ {X : Type 0} (seen : X → EngineView) (kind : Kind) (start : PassView)
       record { start = start; engine = engine; part = part; asks = asks; looked = looked; place_is = is; is = at }
 
   -- the number isn't due
-  pub passed_over : (looked : List Look) (number : ℕ) (me : Seated X) → number ≢ kept_number engine.standing client + 1 → HasLooked client (side_of start.body.ask.op) (numbers_of engine.standing) looked asks
+  pub passed_over : (looked : List Look) (number : ℕ) (me : Seated X) → number ≢ kept_number engine.standing client + 1 → HasLooked client (side_of_operation start.body.ask.op) (numbers_of engine.standing) looked asks
       → IsAfter seen kind start engine (next_work engine start client number AtNumber asks) (next_looked engine client number AtNumber looked) me → IsScanning seen kind start engine (client + 1) asks me
   passed_over looked number me other has after = record {
     looked = looked ++ record { client = client; number = number; op = None } ∷ [];
     part = at_part seen kind (client + 1) AtNumber asks refl now;
-    has_looked = looked_over engine.standing client (side_of start.body.ask.op) number looked asks other has;
+    has_looked = looked_over engine.standing client (side_of_operation start.body.ask.op) number looked asks other has;
     later = λ some. now;
   }
     where
@@ -62,16 +62,16 @@ module _ {X : Type 0} (seen : X → EngineView) (kind : Kind) (start : PassView)
       to_part AtNumber (AtCode number) looked number me (cond-true (eqb number (kept_number engine.standing client + 1)) (Scanning client (AtCode number) asks) (Scanning (suc client) AtNumber asks) due) (cond-true (eqb number (kept_number engine.standing client + 1)) [] (record { client = client; number = number; op = None } ∷ []) due) after
 
   -- all its words are loaded
-  pub scanned_whole : (looked : List Look) (number : ℕ) (op : Op) (more : List Ask) (me : Seated X) → number ≡ kept_number engine.standing client + 1 → HasLooked client (side_of start.body.ask.op) (numbers_of engine.standing) looked asks
-      → more ≡ seen_with (side_of start.body.ask.op) asks (record { client = client; number = number; op = op })
-      → IsAfter seen kind start engine (Scanning (suc client) AtNumber (seen_with (side_of start.body.ask.op) asks (record { client = client; number = number; op = op }))) (looked ++ record { client = client; number = number; op = Some op } ∷ []) me
+  pub scanned_whole : (looked : List Look) (number : ℕ) (op : Op) (more : List Ask) (me : Seated X) → number ≡ kept_number engine.standing client + 1 → HasLooked client (side_of_operation start.body.ask.op) (numbers_of engine.standing) looked asks
+      → more ≡ seen_with (side_of_operation start.body.ask.op) asks (record { client = client; number = number; op = op })
+      → IsAfter seen kind start engine (Scanning (suc client) AtNumber (seen_with (side_of_operation start.body.ask.op) asks (record { client = client; number = number; op = op }))) (looked ++ record { client = client; number = number; op = Some op } ∷ []) me
       → IsScanning seen kind start engine (client + 1) more me
   scanned_whole looked number op more me same has more_is after = subst (λ (l : List Ask). IsScanning seen kind start engine (client + 1) l me) (sym more_is) (record {
     looked = looked ++ record { client = client; number = number; op = Some op } ∷ [];
     part = at_part seen kind (client + 1) AtNumber _ refl now;
-    has_looked = looked_due engine.standing client (side_of start.body.ask.op) number op looked asks same has;
+    has_looked = looked_due engine.standing client (side_of_operation start.body.ask.op) number op looked asks same has;
     later = λ some. now;
   })
     where
-      now : IsAfter seen kind start engine (Scanning (client + 1) AtNumber (seen_with (side_of start.body.ask.op) asks (record { client = client; number = number; op = op }))) (looked ++ record { client = client; number = number; op = Some op } ∷ []) me
-      now = subst (λ (n : ℕ). IsAfter seen kind start engine (Scanning n AtNumber (seen_with (side_of start.body.ask.op) asks (record { client = client; number = number; op = op }))) (looked ++ record { client = client; number = number; op = Some op } ∷ []) me) (omega arith) after
+      now : IsAfter seen kind start engine (Scanning (client + 1) AtNumber (seen_with (side_of_operation start.body.ask.op) asks (record { client = client; number = number; op = op }))) (looked ++ record { client = client; number = number; op = Some op } ∷ []) me
+      now = subst (λ (n : ℕ). IsAfter seen kind start engine (Scanning n AtNumber (seen_with (side_of_operation start.body.ask.op) asks (record { client = client; number = number; op = op }))) (looked ++ record { client = client; number = number; op = Some op } ∷ []) me) (omega arith) after

@@ -3,7 +3,7 @@ use Rattle.std.specs.Prelude.{◌≡◌, ◌≢◌, ℕ, suc, ◌+◌, ◌==◌,
 use Rattle.pb_object.specs.declared.request.Ask.{Ask}
 use Rattle.pb_object.specs.declared.request.Op.{Op}
 use Rattle.pb_object.specs.History.{Entry}
-use Rattle.pb_core.specs.Memory.{side_of}
+use Rattle.pb_core.specs.Memory.{side_of_operation}
 use Rattle.pb_rule.specs.View.{Look, OwnRound, PassView}
 
 -- a look's number is one more than its client's kept one
@@ -16,7 +16,7 @@ asked_if false look op = []
 
 abbrev pub asked_with : ℕ → Look → Option Op → List Ask
 asked_with side look None = []
-asked_with side look (Some op) = asked_if (side_of op == side) look op
+asked_with side look (Some op) = asked_if (side_of_operation op == side) look op
 
 abbrev pub due_if : Bool → ℕ → Look → List Ask
 due_if true side look = asked_with side look look.op
@@ -49,4 +49,4 @@ ask_of_entry entry = record { client = entry.client; number = entry.number; op =
 
 -- a round that was filled from a scan of all clients: its entries are exactly the requests that are due
 abbrev pub IsCombined : PassView → OwnRound → Type 0
-IsCombined v own = HasLooked v.clients (side_of v.body.ask.op) own.kept v.looked (map ask_of_entry own.entries)
+IsCombined v own = HasLooked v.clients (side_of_operation v.body.ask.op) own.kept v.looked (map ask_of_entry own.entries)

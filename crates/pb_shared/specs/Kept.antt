@@ -1,17 +1,12 @@
 -- What a client's kept requests tell of a request that is asked again.
-use Rattle.std.specs.Prelude.{ℕ, ◌+◌, ◌==◌, ◌&&◌, Bool, nat_le, List, find, Option, Some, None, if◌then◌else◌}
+use Rattle.std.specs.Prelude.{ℕ, ◌+◌, ◌==◌, nat_le, List, Option, Some, None, if◌then◌else◌}
 use Rattle.pb_object.specs.declared.request.Kept.{Kept as KeptRequest}
 use Rattle.pb_object.specs.declared.request.Op.{Op}
 use Rattle.pb_object.specs.Standing.{newest}
 use Rattle.pb_shared.specs.declared.answers.Again.{Again}
 use Rattle.pb_shared.specs.declared.answers.Again.TheVariants.{Announced, Kept, Old, Gap, Changed}
-
--- the one of these kept requests that has this number, if there is one
-abbrev pub kept_with : ℕ → List KeptRequest → Option KeptRequest
-kept_with number list = find (λ one. one.number == number) list
-
-abbrev pub is_same_op : Op → Op → Bool
-is_same_op first second = first.code == second.code && first.a == second.a && first.b == second.b && first.c == second.c
+use Rattle.pb_object.specs.KeptLists.{kept_with}
+use Rattle.pb_object.specs.Request.{is_same_op}
 
 -- a request up to the last one: the member with its number decides, and none is left of an old one
 abbrev pub again_by : Option KeptRequest → (last : ℕ) → Op → Again

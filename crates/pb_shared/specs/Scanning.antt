@@ -2,7 +2,7 @@
 use Rattle.std.specs.Prelude.{◌≡◌, ℕ, ◌<◌, ◌++◌, List, [], Some, None}
 use Rattle.pb_object.specs.declared.kind.Kind.{Kind}
 use Rattle.pb_object.specs.declared.request.Ask.{Ask}
-use Rattle.pb_core.specs.Memory.{Part, AtNumber, AtCode, Work, NoWork, Scanning, side_of}
+use Rattle.pb_core.specs.Memory.{Part, AtNumber, AtCode, Work, NoWork, Scanning, side_of_operation}
 use Rattle.pb_engine.specs.View.{EngineView}
 use Rattle.pb_rule.specs.View.{Look, PassView, numbers_of}
 use Rattle.pb_rule.specs.Plays.{Seated, the_view, engine_now, scanning_now, kept_number, part_found, looked_part, ScanIsOver}
@@ -36,7 +36,7 @@ pub record IsAfter {X : Type 0} (seen : X → EngineView) (kind : Kind) (start :
 
 -- what is due after one more word was found
 abbrev pub next_work : EngineView → PassView → (client found : ℕ) → Part → List Ask → Work
-next_work engine start client found part asks = part_found (kept_number engine.standing) (side_of start.body.ask.op) found client part asks
+next_work engine start client found part asks = part_found (kept_number engine.standing) (side_of_operation start.body.ask.op) found client part asks
 
 abbrev pub next_looked : EngineView → (client found : ℕ) → Part → List Look → List Look
 next_looked engine client found part looked = looked ++ looked_part (kept_number engine.standing) found client part
@@ -64,7 +64,7 @@ pub record HasOperation {X : Type 0} (seen : X → EngineView) (kind : Kind) (cl
 pub record IsScanning {X : Type 0} (seen : X → EngineView) (kind : Kind) (start : PassView) (engine : EngineView) (client : ℕ) (asks : List Ask) (me : Seated X) : Type 0 where
   pub looked : List Look
   pub part : IsAtPart seen kind start engine client AtNumber asks looked me
-  pub has_looked : HasLooked client (side_of start.body.ask.op) (numbers_of engine.standing) looked asks
+  pub has_looked : HasLooked client (side_of_operation start.body.ask.op) (numbers_of engine.standing) looked asks
   pub later : 0 < client → IsAfter seen kind start engine (Scanning client AtNumber asks) looked me
 
 -- the same from some start

@@ -1,7 +1,7 @@
 //! Announcing a request.
 ghost use Rattle.std.specs.Prelude.{◌≡◌};
 ghost use Rattle.pb_core.specs.Client.{Idle};
-ghost use Rattle.pb_rule.specs.Asked.{IsNextOf};
+ghost use Rattle.pb_rule.specs.Asked.{IsNextRequestOf};
 ghost use Rattle.pb_rule.specs.Plays.{IsPlain, the_view, with_view};
 ghost use Rattle.pb_rule.specs.Seats.{IsAt};
 ghost use Rattle.pb_shared.specs.Passes.{has_announced};
@@ -16,7 +16,7 @@ pub fn announce_request<E: Engine>(board: &Board<E>, seat: &mut Place<E>, ask: &
     requires at { IsAt board.now.table_id seat.old.table_id (the_view seat.old.me).clients }
     requires plain { IsPlain seat.old.me }
     requires idle { (the_view seat.old.me).body.stage ≡ Idle }
-    requires next { IsNextOf (E.seen board.now.key.value).standing.kind (the_view seat.old.me) ask.now }
+    requires next { IsNextRequestOf (E.seen board.now.key.value).standing.kind (the_view seat.old.me) ask.now }
     ensures table { seat.new.table_id ≡ seat.old.table_id }
     ensures seen { seat.new.me ≡ with_view (has_announced ask.now) seat.old.me }
 {

@@ -1,6 +1,7 @@
 //! Judging a request by what is kept of its client.
 ghost use Rattle.std.specs.Prelude.{◌≡◌, ◌<◌, ◌≤◌};
-ghost use Rattle.pb_shared.specs.Kept.{again_on, again_by, is_same_op};
+ghost use Rattle.pb_shared.specs.Kept.{again_on, again_by};
+ghost use Rattle.pb_object.specs.Request.{is_same_op};
 
 use crate::answers::Again;
 use crate::lists::{find_kept, kept_in};

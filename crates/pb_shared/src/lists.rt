@@ -3,10 +3,9 @@ ghost use Rattle.std.specs.Prelude.{◌≡◌, ◌<◌};
 ghost use Rattle.std.specs.Prelude.{slice_index_or};
 ghost use Rattle.pb_core.specs.Client.{entry_by};
 ghost use Rattle.pb_object.specs.History.{kept_by};
-ghost use Rattle.pb_object.specs.KeptLists.{IsKeptList};
+ghost use Rattle.pb_object.specs.KeptLists.{IsKeptList, kept_with};
 ghost use Rattle.pb_object.specs.Request.{none_kept};
 ghost use Rattle.pb_object.specs.Standing.{keep, kept_list_of};
-ghost use Rattle.pb_shared.specs.Kept.{kept_with};
 
 use arrayvec::ArrayVec;
 use pb_engine::Engine;

@@ -2,7 +2,7 @@
 ghost use Rattle.std.specs.Prelude.{◌≡◌, ◌<◌, ◌≤◌, ◌+◌, ◌++◌, ◌∷◌, [], false, length, map, All, IfOk, vec_len, vec_capacity};
 ghost use Rattle.pb_core.specs.Client.{is_holding};
 ghost use Rattle.pb_engine.specs.View.{IsEngine};
-ghost use Rattle.pb_rule.specs.Opening.{AreFree};
+ghost use Rattle.pb_rule.specs.Opening.{AreNotHolding};
 ghost use Rattle.pb_rule.specs.Rule.{word_count};
 ghost use Rattle.pb_rule.specs.View.{fresh_view, fresh_views};
 ghost use Rattle.pb_shared.specs.Passes.{IsAtTable, lists_kept, passes_over, view_of};
@@ -119,7 +119,7 @@ pub fn join_all<E: Engine>(board: &Board<E>, mut passes: Vec<Pass<E>>) -> Place<
     requires words { 0 < board.now.table_id.words }
     ensures table { result.table_id ≡ board.now.table_id }
     ensures views { result.me ≡ (map view_of passes.items, []) }
-    ensures free { AreFree (map view_of passes.items) }
+    ensures free { AreNotHolding (map view_of passes.items) }
 {
     let Some(last) = passes.pop() else {
         unreachable!()

@@ -1,7 +1,7 @@
 //! The holder's scan: which requests are announced, due and of its side.
 ghost use Rattle.std.specs.Prelude.{◌≡◌, ◌<◌, ◌≤◌, ◌+◌, ◌++◌, ◌∷◌, [], List, ℕ, suc, length, Some};
 ghost use Rattle.pb_object.specs.declared.request.Ask.{Ask};
-ghost use Rattle.pb_core.specs.Memory.{Part, AtNumber, AtCode, Scanning, side_of as side_of_op};
+ghost use Rattle.pb_core.specs.Memory.{Part, AtNumber, AtCode, Scanning, side_of_operation as side_of_op};
 ghost use Rattle.pb_engine.specs.View.{EngineView};
 ghost use Rattle.pb_rule.specs.Plays.{the_view, seen_with};
 ghost use Rattle.pb_rule.specs.Seats.{IsAt};

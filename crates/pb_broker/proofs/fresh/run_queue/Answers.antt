@@ -1,7 +1,7 @@
 use Rattle.std.proofs.Common.{◌≡◌, ◌∙◌, ap, subst, inr, rules}
 use Rattle.pb_object.specs.declared.kind.Kind.TheVariants.{Queue}
 use Rattle.pb_layout.specs.declared.header.Header.{Header}
-use Rattle.pb_engine.specs.Opening.{IsFresh}
+use Rattle.pb_engine.specs.Opening.{IsFreshEngine}
 use Rattle.pb_engine.specs.View.{EngineView}
 use Rattle.pb_broker.proofs.Ran.{made_alone}
 use Rattle.pb_broker.proofs.fresh.run_queue.Goals as goal
@@ -9,5 +9,5 @@ use Rattle.pb_broker.proofs.fresh.run_queue.Goals as goal
 pub returns-in-Err-serve-clause-ran : goal.returns-in-Err-serve-clause-ran
 returns-in-Err-serve-clause-ran g c =
     let same : record { kind = Queue; clients = c.head.inside.clients; size = c.head.inside.size } ≡ c.args.head.now = search rules in
-    inr (made_alone (subst (λ (head : Header). IsFresh head (g.P.Pmem.seen c.args.device) c.in-Ok.queue) same c.in-Ok.ensures.ok)
+    inr (made_alone (subst (λ (head : Header). IsFreshEngine head (g.P.Pmem.seen c.args.device) c.in-Ok.queue) same c.in-Ok.ensures.ok)
     (c.close-in-Err-serve.ensures ∙ ap (λ (engine : EngineView). engine.device) c.in-Err-serve.ensures.err))

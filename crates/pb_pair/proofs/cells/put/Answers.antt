@@ -2,7 +2,7 @@ use Rattle.std.proofs.Common.{◌≡◌, List, [], ◌∷◌, OnOk, OnErr, subst
 use Rattle.pb_pmem.specs.declared.log.LogOp.{LogOp}
 use Rattle.pb_pmem.specs.declared.log.LogOp.TheVariants.{Whole, Back}
 use Rattle.pb_pmem.specs.Operations.{IsFailedPrefix, Does, Stops}
-use Rattle.pb_pair.specs.Cells.{put_ops}
+use Rattle.pb_layout.specs.PutCell.{put_ops}
 use Rattle.pb_pair.proofs.cells.put.Goals as goal
 
 pub returns-clause-ok : goal.returns-clause-ok

@@ -1,8 +1,9 @@
 use Rattle.std.proofs.Common.{None}
 use Rattle.pb_pmem.specs.Operations.{IsFailedPrefix}
-use Rattle.pb_pair.specs.Cells.{IsNothing, put_ops}
+use Rattle.pb_pair.specs.Cells.{IsNothing}
+use Rattle.pb_layout.specs.PutCell.{put_ops}
 use Rattle.pb_pair.specs.Store.{IsFailedStore, doubt_of}
-use Rattle.pb_pair.specs.View.{side_of}
+use Rattle.pb_pair.specs.View.{view_of_side}
 use Rattle.pb_pair.proofs.Reopened.{failed_of, failed_keeps_doubt}
 use Rattle.pb_pair.proofs.laws.failed_calls_keep_the_standing.Goals as goal
 
@@ -18,4 +19,4 @@ returns-clause-put c =
 
 pub returns-clause-store : goal.returns-clause-store
 returns-clause-store c =
-    λ old new fault s side lines failed of. failed_of (IsFailedStore old.head side (side_of old side) lines failed.called) (doubt_of side lines failed.called) old new fault s failed.failed of
+    λ old new fault s side lines failed of. failed_of (IsFailedStore old.head side (view_of_side old side) lines failed.called) (doubt_of side lines failed.called) old new fault s failed.failed of

@@ -9,7 +9,7 @@ use Rattle.pb_play.specs.declared.memory.Memory.{Memory}
 use Rattle.pb_round_play.specs.declared.rounds.Rounds.{Rounds}
 use Rattle.pb_play.specs.declared.world.World.{World}
 use Rattle.pb_round_play.specs.Rounds.{MayBegin, MakesRecord}
-use Rattle.pb_play.specs.Rounds.{asks_of}
+use Rattle.pb_play.specs.Rounds.{scanned_asks}
 use Rattle.pb_play.specs.Seats.{begins_round}
 use Rattle.pb_play.proofs.Beginning.{may_begin, begins_on}
 use Rattle.pb_round_play.proofs.NextRecords.{side_is_there, few_rounds}
@@ -20,8 +20,8 @@ make_record-requires-clause-may c =
     let held = c.requires.held in
     let repeated = c.repeat_rows.ensures.is in (
       shown held.world.memory,
-      subst (λ (r : Rounds). MayBegin c.args.world.now.head c.args.world.now.device.lines.items r (asks_of c.repeat_rows.new.memory) c.args.side (shown held.world.memory)) (ap (λ (m : Memory). m.rounds) (sym repeated))
-          (subst (λ (asks : List Ask). MayBegin c.args.world.now.head c.args.world.now.device.lines.items c.args.world.now.memory.rounds asks c.args.side (shown held.world.memory)) (ap asks_of (sym repeated))
+      subst (λ (r : Rounds). MayBegin c.args.world.now.head c.args.world.now.device.lines.items r (scanned_asks c.repeat_rows.new.memory) c.args.side (shown held.world.memory)) (ap (λ (m : Memory). m.rounds) (sym repeated))
+          (subst (λ (asks : List Ask). MayBegin c.args.world.now.head c.args.world.now.device.lines.items c.args.world.now.memory.rounds asks c.args.side (shown held.world.memory)) (ap scanned_asks (sym repeated))
           (may_begin (record { is = held.is; shows = held.shows; holds = held.holds; there = held.there; over = c.requires.over; idle = c.requires.idle }))),
     )
 
@@ -48,10 +48,10 @@ returns-clause-on c = λ w client is s holds there.
       rows = new.memory.seats;
       cells = new.calls.plan.items;
       made = λ standing may.
-          subst (λ (asks : List Ask). MakesRecord old.device.lines.items standing (asked_round standing asks) c.repeat_rows.new.memory.seats new.next.items new.memory.seats new.calls.plan.items) (ap asks_of repeated)
+          subst (λ (asks : List Ask). MakesRecord old.device.lines.items standing (asked_round standing asks) c.repeat_rows.new.memory.seats new.next.items new.memory.seats new.calls.plan.items) (ap scanned_asks repeated)
           (c.make_record.ensures.made standing
-          (subst (λ (r : Rounds). MayBegin old.head old.device.lines.items r (asks_of c.repeat_rows.new.memory) c.args.side standing) (ap (λ (m : Memory). m.rounds) (sym repeated))
-          (subst (λ (asks : List Ask). MayBegin old.head old.device.lines.items old.memory.rounds asks c.args.side standing) (ap asks_of (sym repeated)) may)));
+          (subst (λ (r : Rounds). MayBegin old.head old.device.lines.items r (scanned_asks c.repeat_rows.new.memory) c.args.side standing) (ap (λ (m : Memory). m.rounds) (sym repeated))
+          (subst (λ (asks : List Ask). MayBegin old.head old.device.lines.items old.memory.rounds asks c.args.side standing) (ap scanned_asks (sym repeated)) may)));
       count = c.of-rounds.result;
       counted = c.of-rounds.ensures;
       plan = ap (λ (q : Calls). q.plan.items) c.begin.ensures

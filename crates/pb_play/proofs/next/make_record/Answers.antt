@@ -14,7 +14,7 @@ use Rattle.pb_comb.specs.Serving as comb
 use Rattle.pb_queue.specs.Serving as queue
 use Rattle.pb_round_play.specs.Items.{ItemsFit}
 use Rattle.pb_round_play.specs.Rounds.{MakesRecord}
-use Rattle.pb_play.specs.Rounds.{asks_of}
+use Rattle.pb_play.specs.Rounds.{scanned_asks}
 use Rattle.pb_round_play.specs.Serving.{HasServed, HoldsQueue, HasServedQueue}
 use Rattle.pb_round_play.proofs.NextRecords.{side_is_there, few_rounds, comb_servable, queue_servable, before_is, kind_in, size_in, object_stands, one_made, queue_region, holds_queue, queue_made, apart_map, apart_stack, apart_heap, map_or_heap, stack_or_heap}
 use Rattle.pb_play.proofs.next.make_record.Goals as goal
@@ -53,11 +53,11 @@ returns-in-Map-clause-made c = λ s may.
     let lines = c.args.world.now.device.lines.items in
     let head = c.args.world.now.head in
     let before = c.record-before.result.now in
-    let asks : c.split_at.result.0.now ≡ asks_of c.args.world.now.memory = c.split_at.ensures.front in
+    let asks : c.split_at.result.0.now ≡ scanned_asks c.args.world.now.memory = c.split_at.ensures.front in
     let no_queue : head.kind ≢ Queue = λ queue. absurd (apart_map (sym (subst (ItemsFit head) c.in-Map.is c.requires.items).0 ∙ queue)) in
     let is = before_is s c.of.result before may c.of.ensures (c.record-before.ensures.is ∙ ap (λ (ls : List Line). record_in_use ls head c.args.side c.of.result) c.as_slice-lines.ensures.value) in
     let did = c.serve.ensures.served s.state (kind_in s may) (size_in s may) (object_stands s before may no_queue is) in
-    subst (λ (ls : List Line). MakesRecord lines s (asked_round s (asks_of c.args.world.now.memory)) c.args.world.now.memory.seats ls c.serve.new.seats c.args.world.now.calls.plan.items)
+    subst (λ (ls : List Line). MakesRecord lines s (asked_round s (scanned_asks c.args.world.now.memory)) c.args.world.now.memory.seats ls c.serve.new.seats c.args.world.now.calls.plan.items)
     (sym (written_whole c.args.world.now.next.len c.serve.new.next c.args.world.now.next.items (c.serve.ensures.next ∙ sym c.requires.next) c.args.world.now.next.ok.0))
     (one_made s c.of-2.result may no_queue is c.record-before.ensures.long c.of-2.ensures c.begin_record.ensures
     (subst (λ (l : List Ask). HasServed head before s.state l c.begin_record.new.next c.serve.new.next c.args.world.now.memory.seats c.serve.new.seats) asks did.0) (λ heap. absurd (map_or_heap (sym (subst (ItemsFit head) c.in-Map.is c.requires.items).0 ∙ heap))) c.requires.plan)
@@ -67,11 +67,11 @@ returns-in-Stack-clause-made c = λ s may.
     let lines = c.args.world.now.device.lines.items in
     let head = c.args.world.now.head in
     let before = c.record-before.result.now in
-    let asks : c.split_at.result.0.now ≡ asks_of c.args.world.now.memory = c.split_at.ensures.front in
+    let asks : c.split_at.result.0.now ≡ scanned_asks c.args.world.now.memory = c.split_at.ensures.front in
     let no_queue : head.kind ≢ Queue = λ queue. absurd (apart_stack (sym (subst (ItemsFit head) c.in-Stack.is c.requires.items).0 ∙ queue)) in
     let is = before_is s c.of.result before may c.of.ensures (c.record-before.ensures.is ∙ ap (λ (ls : List Line). record_in_use ls head c.args.side c.of.result) c.as_slice-lines.ensures.value) in
     let did = c.serve-in-Stack.ensures.served s.state (kind_in s may) (size_in s may) (object_stands s before may no_queue is) in
-    subst (λ (ls : List Line). MakesRecord lines s (asked_round s (asks_of c.args.world.now.memory)) c.args.world.now.memory.seats ls c.serve-in-Stack.new.seats c.args.world.now.calls.plan.items)
+    subst (λ (ls : List Line). MakesRecord lines s (asked_round s (scanned_asks c.args.world.now.memory)) c.args.world.now.memory.seats ls c.serve-in-Stack.new.seats c.args.world.now.calls.plan.items)
     (sym (written_whole c.args.world.now.next.len c.serve-in-Stack.new.next c.args.world.now.next.items (c.serve-in-Stack.ensures.next ∙ sym c.requires.next) c.args.world.now.next.ok.0))
     (one_made s c.of-2.result may no_queue is c.record-before.ensures.long c.of-2.ensures c.begin_record.ensures
     (subst (λ (l : List Ask). HasServed head before s.state l c.begin_record.new.next c.serve-in-Stack.new.next c.args.world.now.memory.seats c.serve-in-Stack.new.seats) asks did.0) (λ heap. absurd (stack_or_heap (sym (subst (ItemsFit head) c.in-Stack.is c.requires.items).0 ∙ heap))) c.requires.plan)
@@ -81,11 +81,11 @@ returns-in-Heap-clause-made c = λ s may.
     let lines = c.args.world.now.device.lines.items in
     let head = c.args.world.now.head in
     let before = c.record-before.result.now in
-    let asks : c.split_at.result.0.now ≡ asks_of c.args.world.now.memory = c.split_at.ensures.front in
+    let asks : c.split_at.result.0.now ≡ scanned_asks c.args.world.now.memory = c.split_at.ensures.front in
     let no_queue : head.kind ≢ Queue = λ queue. absurd (apart_heap (sym (subst (ItemsFit head) c.in-Heap.is c.requires.items).0 ∙ queue)) in
     let is = before_is s c.of.result before may c.of.ensures (c.record-before.ensures.is ∙ ap (λ (ls : List Line). record_in_use ls head c.args.side c.of.result) c.as_slice-lines.ensures.value) in
     let did = c.serve_heap.ensures.served s.state (kind_in s may) (size_in s may) (object_stands s before may no_queue is) in
-    subst (λ (ls : List Line). MakesRecord lines s (asked_round s (asks_of c.args.world.now.memory)) c.args.world.now.memory.seats ls c.serve_heap.new.seats c.args.world.now.calls.plan.items)
+    subst (λ (ls : List Line). MakesRecord lines s (asked_round s (scanned_asks c.args.world.now.memory)) c.args.world.now.memory.seats ls c.serve_heap.new.seats c.args.world.now.calls.plan.items)
     (sym (written_whole c.args.world.now.next.len c.serve_heap.new.next c.args.world.now.next.items (c.serve_heap.ensures.next ∙ sym c.requires.next) c.args.world.now.next.ok.0))
     (one_made s c.of-2.result may no_queue is c.record-before.ensures.long c.of-2.ensures c.begin_record.ensures
     (subst (λ (l : List Ask). HasServed head before s.state l c.begin_record.new.next c.serve_heap.new.next c.args.world.now.memory.seats c.serve_heap.new.seats) asks did.0) (λ heap. subst (λ (l : List Ask). ListsRising (state_from s.state l) (object_part head c.serve_heap.new.next)) asks did.1) c.requires.plan)
@@ -95,7 +95,7 @@ returns-in-Queue-clause-made c = λ s may.
     let lines = c.args.world.now.device.lines.items in
     let head = c.args.world.now.head in
     let before = c.record-before.result.now in
-    let asks : c.split_at.result.0.now ≡ asks_of c.args.world.now.memory = c.split_at.ensures.front in
+    let asks : c.split_at.result.0.now ≡ scanned_asks c.args.world.now.memory = c.split_at.ensures.front in
     let is_queue = subst (ItemsFit head) c.in-Queue.is c.requires.items in
     let region = queue_region s may is_queue in
     let same : c.as_slice-lines.result.now ≡ lines = c.as_slice-lines.ensures.value in
@@ -104,7 +104,7 @@ returns-in-Queue-clause-made c = λ s may.
     (subst (λ (ls : List Line). HoldsQueue head ls c.ends_in-ends.result region.0) (sym same)
     (holds_queue s region.0 c.ends_in-ends.result may region.1 (c.ends_in-ends.ensures.head ∙ ap (λ (ls : List Line). word_of (record_in_use ls head 1 c.args.world.now.memory.rounds.second) (record_length head - 1) 0) same)
     (c.ends_in-ends.ensures.tail ∙ ap (λ (ls : List Line). word_of (record_in_use ls head 0 c.args.world.now.memory.rounds.first) (record_length head - 1) 0) same))) in
-    subst (λ (ls : List Line). MakesRecord lines s (asked_round s (asks_of c.args.world.now.memory)) c.args.world.now.memory.seats ls c.serve_queue.new.seats c.serve_queue.new.plan.items)
+    subst (λ (ls : List Line). MakesRecord lines s (asked_round s (scanned_asks c.args.world.now.memory)) c.args.world.now.memory.seats ls c.serve_queue.new.seats c.serve_queue.new.plan.items)
     (sym (written_whole c.args.world.now.next.len c.serve_queue.new.next c.args.world.now.next.items (c.serve_queue.ensures.next ∙ sym c.requires.next) c.args.world.now.next.ok.0))
     (queue_made s region.0 c.of-2.result may region.1 is c.of-2.ensures c.begin_record.ensures
     (subst (λ (l : List Ask). HasServedQueue head before c.args.side region.0 l c.begin_record.new.next c.serve_queue.new.next c.args.world.now.memory.seats c.serve_queue.new.seats [] c.serve_queue.new.plan.items) asks

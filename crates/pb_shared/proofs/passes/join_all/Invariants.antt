@@ -1,5 +1,5 @@
 use Rattle.std.proofs.Common.{◌≡◌, ◌++◌, [], map, All, vec_len}
-use Rattle.pb_rule.specs.Opening.{AreFree}
+use Rattle.pb_rule.specs.Opening.{AreNotHolding}
 use Rattle.pb_shared.specs.Passes.{IsAtTable, view_of}
 use Rattle.pb_shared.proofs.passes.join_all.Given as goal
 
@@ -12,4 +12,4 @@ invariant-loop-pass g l =
     × (l.seat.me.1 ≡ [])
     × (map view_of l.passes.items ++ l.seat.me.0 ≡ map view_of l.fn.passes.items)
     × All (IsAtTable l.fn.board.table_id) l.passes.items
-    × AreFree l.seat.me.0
+    × AreNotHolding l.seat.me.0

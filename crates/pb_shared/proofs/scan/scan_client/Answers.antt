@@ -2,7 +2,7 @@ use Rattle.std.proofs.Common.{◌≡◌, ◌≢◌, ◌+◌, [], ◌∷◌, ◌+
 use Rattle.std.proofs.lemmas.Bool.{cond-true, cond-false, eq-eqb, ne_eqb}
 use Rattle.pb_object.specs.declared.request.Ask.{Ask}
 use Rattle.pb_object.specs.declared.request.Kept.{Kept}
-use Rattle.pb_core.specs.Memory.{AtNumber, side_of}
+use Rattle.pb_core.specs.Memory.{AtNumber, side_of_operation}
 use Rattle.pb_engine.specs.View.{EngineView}
 use Rattle.pb_rule.specs.Plays.{Seated, the_view, kept_number}
 use Rattle.pb_rule.specs.View.{PassView}
@@ -54,9 +54,9 @@ returns-then-side_of-side-clause-scanned g c = λ start engine is.
     let after = c.load_part-number.ensures.next start engine AtNumber c.args.asks.now.items is.looked (subst (λ (me : Seated g.row.E.Denot). IsAtPart g.E.Engine.seen (g.E.Engine.seen c.args.board.now.key.value).standing.kind start engine c.args.client AtNumber c.args.asks.now.items is.looked me) (sym c.kept_of-kept.ensures.same.1) is.part) in
     let at = meets_due g.E.Engine.seen (g.E.Engine.seen c.args.board.now.key.value).standing.kind start engine c.args.client c.args.asks.now.items is.looked c.load_part-number.result _ due after in
     let ask : Ask = record { client = c.args.client; number = c.load_part-number.result; op = c.load_operation-op.result } in
-    let same : side_of c.load_operation-op.result ≡ side_of start.body.ask.op = sym c.side_of.ensures ∙ (c.if-side_of-side.true ∙ (c.requires.side ∙ same_side g.E.Engine.seen (g.E.Engine.seen c.args.board.now.key.value).standing.kind (the_view c.args.seat.now.me) start is.part.rest)) in
+    let same : side_of_operation c.load_operation-op.result ≡ side_of_operation start.body.ask.op = sym c.side_of.ensures ∙ (c.if-side_of-side.true ∙ (c.requires.side ∙ same_side g.E.Engine.seen (g.E.Engine.seen c.args.board.now.key.value).standing.kind (the_view c.args.seat.now.me) start is.part.rest)) in
     scanned_whole g.E.Engine.seen (g.E.Engine.seen c.args.board.now.key.value).standing.kind start engine c.args.client c.args.asks.now.items is.looked c.load_part-number.result c.load_operation-op.result c.push.new.self.items _ due is.has_looked
-    (c.push.ensures.items ∙ sym (cond-true (eqb (side_of c.load_operation-op.result) (side_of start.body.ask.op)) (c.args.asks.now.items ++ ask ∷ []) c.args.asks.now.items (eq-eqb _ _ same)))
+    (c.push.ensures.items ∙ sym (cond-true (eqb (side_of_operation c.load_operation-op.result) (side_of_operation start.body.ask.op)) (c.args.asks.now.items ++ ask ∷ []) c.args.asks.now.items (eq-eqb _ _ same)))
     (c.load_operation-op.ensures.loaded start engine c.load_part-number.result c.args.asks.now.items is.looked at)
 
 pub returns-else-side_of-side-clause-scanned : goal.returns-else-side_of-side-clause-scanned
@@ -66,7 +66,7 @@ returns-else-side_of-side-clause-scanned g c = λ start engine is.
     let after = c.load_part-number.ensures.next start engine AtNumber c.args.asks.now.items is.looked (subst (λ (me : Seated g.row.E.Denot). IsAtPart g.E.Engine.seen (g.E.Engine.seen c.args.board.now.key.value).standing.kind start engine c.args.client AtNumber c.args.asks.now.items is.looked me) (sym c.kept_of-kept.ensures.same.1) is.part) in
     let at = meets_due g.E.Engine.seen (g.E.Engine.seen c.args.board.now.key.value).standing.kind start engine c.args.client c.args.asks.now.items is.looked c.load_part-number.result _ due after in
     let ask : Ask = record { client = c.args.client; number = c.load_part-number.result; op = c.load_operation-op.result } in
-    let apart : side_of c.load_operation-op.result ≢ side_of start.body.ask.op = λ e. c.if-side_of-side.false (c.side_of.ensures ∙ (e ∙ sym (c.requires.side ∙ same_side g.E.Engine.seen (g.E.Engine.seen c.args.board.now.key.value).standing.kind (the_view c.args.seat.now.me) start is.part.rest))) in
+    let apart : side_of_operation c.load_operation-op.result ≢ side_of_operation start.body.ask.op = λ e. c.if-side_of-side.false (c.side_of.ensures ∙ (e ∙ sym (c.requires.side ∙ same_side g.E.Engine.seen (g.E.Engine.seen c.args.board.now.key.value).standing.kind (the_view c.args.seat.now.me) start is.part.rest))) in
     scanned_whole g.E.Engine.seen (g.E.Engine.seen c.args.board.now.key.value).standing.kind start engine c.args.client c.args.asks.now.items is.looked c.load_part-number.result c.load_operation-op.result c.args.asks.now.items _ due is.has_looked
-    (sym (cond-false (eqb (side_of c.load_operation-op.result) (side_of start.body.ask.op)) (c.args.asks.now.items ++ ask ∷ []) c.args.asks.now.items (ne_eqb _ _ apart)))
+    (sym (cond-false (eqb (side_of_operation c.load_operation-op.result) (side_of_operation start.body.ask.op)) (c.args.asks.now.items ++ ask ∷ []) c.args.asks.now.items (ne_eqb _ _ apart)))
     (c.load_operation-op.ensures.loaded start engine c.load_part-number.result c.args.asks.now.items is.looked at)

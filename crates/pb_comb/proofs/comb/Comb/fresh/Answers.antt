@@ -8,7 +8,7 @@ use Rattle.pb_layout.specs.Shape.{IsHeader}
 use Rattle.pb_pair.specs.Format.{IsFormatted, AreFirst, IsFormatRefusal}
 use Rattle.pb_pair.specs.Safe.{FormatCovers, FailedFormatCovers}
 use Rattle.pb_pair.specs.View.{SideView}
-use Rattle.pb_engine.specs.Opening.{IsFresh, IsFreshRefusal}
+use Rattle.pb_engine.specs.Opening.{IsFreshEngine, IsFreshRefusal}
 use Rattle.pb_comb.specs.View.{comb_view, IsComb}
 use Rattle.pb_comb.proofs.Opening.{AreFirstLines, first_lines, are_first, fresh_records, fresh_is, fresh_refusal, no_memory, resting, long_first}
 use Rattle.pb_comb.proofs.comb.Comb.fresh.Goals as goal
@@ -52,8 +52,8 @@ returns-in-Ok-format-clause-ok g c =
     let formatted : IsFormatted head lines [] (g.P.Pmem.seen c.args.device) c.in-Ok-format.pair = subst (λ (ls : List Line). IsFormatted head ls [] (g.P.Pmem.seen c.args.device) c.in-Ok-format.pair) c.lines.ensures c.in-Ok-format.ensures.ok in
     let safely = subst (λ (ls : List Line). FormatCovers head ls [] (g.P.Pmem.seen c.args.device) c.in-Ok-format.pair.device) c.lines.ensures c.in-Ok-format.ensures.safe in
     let fresh = fresh_is head c.in-Ok-format.pair state zeros lines (g.P.Pmem.seen c.args.device) is formatted safely (g.met.P.Pmem.is_whole c.args.device) in
-    subst (λ (asked : List Ask). IsFresh (record { kind = g.O.Object.KIND; clients = c.args.clients; size = c.args.size }) (g.P.Pmem.seen c.args.device) (comb_view c.in-Ok-format.pair state asked)) (sym c.new.ensures)
-    (subst (λ (kind : Kind). IsFresh (record { kind = kind; clients = c.args.clients; size = c.args.size }) (g.P.Pmem.seen c.args.device) (comb_view c.in-Ok-format.pair state [])) c.KIND.ensures fresh)
+    subst (λ (asked : List Ask). IsFreshEngine (record { kind = g.O.Object.KIND; clients = c.args.clients; size = c.args.size }) (g.P.Pmem.seen c.args.device) (comb_view c.in-Ok-format.pair state asked)) (sym c.new.ensures)
+    (subst (λ (kind : Kind). IsFreshEngine (record { kind = kind; clients = c.args.clients; size = c.args.size }) (g.P.Pmem.seen c.args.device) (comb_view c.in-Ok-format.pair state [])) c.KIND.ensures fresh)
 
 pub returns-in-Err-clause-err : goal.returns-in-Err-clause-err
 returns-in-Err-clause-err g c =

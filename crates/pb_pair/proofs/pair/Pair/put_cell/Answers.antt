@@ -1,6 +1,7 @@
 use Rattle.std.proofs.Common.{Option, None, refl, sym, subst}
 use Rattle.pb_pmem.specs.Operations.{IsFailedPrefix}
-use Rattle.pb_pair.specs.Cells.{IsFree, HasPut, put_ops}
+use Rattle.pb_pair.specs.Cells.{IsFree, HasPut}
+use Rattle.pb_layout.specs.PutCell.{put_ops}
 use Rattle.pb_pair.specs.View.{PairView, DoubtView, HasFailed, pair_view}
 use Rattle.pb_pair.proofs.HeldRecords.{cut_spares}
 use Rattle.pb_pair.proofs.Pairs.{fails_keeping, has_failed_beside, room_left, stops_by, put_spares, put_pair, put_none}

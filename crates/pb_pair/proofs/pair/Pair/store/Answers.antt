@@ -2,7 +2,7 @@ use Rattle.std.proofs.Common.{◌≡◌, Some, sym, ap, subst, ◌∙◌}
 use Rattle.pb_pmem.specs.Device.{IsWhole, IsReplay}
 use Rattle.pb_pair.specs.declared.known.Known.TheVariants.{Sure}
 use Rattle.pb_pair.specs.Store.{IsNext, IsStored, IsFailedStore, HasFailedStore}
-use Rattle.pb_pair.specs.View.{PairView, IsPair, side_of, pair_view}
+use Rattle.pb_pair.specs.View.{PairView, IsPair, view_of_side, pair_view}
 use Rattle.pb_pair.proofs.Pairs.{room_left, stops_by}
 use Rattle.pb_pair.proofs.Stored.{is_stored, has_failed_store}
 use Rattle.pb_pair.proofs.Safe.{store_covers, failed_store_covers}
@@ -38,7 +38,7 @@ invariant_of-self-in-Err g c =
     let replay : IsReplay device = g.met.P.Pmem.is_replay i.device in
     let old : PairView = pair_view device i.head i.sides i.known i.doubt in
     let next : IsNext old c.args.side c.args.lines.now = subst (λ (was : PairView). IsNext was c.args.side c.args.lines.now) (sym c.self.view_is) c.requires.next in
-    let by = stops_by (IsFailedStore i.head c.args.side (side_of old c.args.side) c.args.lines.now c.in-Err.called) device new c.fail.result c.faults-from.result c.faults-to.result c.fail.ensures.fault c.faults-from.ensures c.faults-to.ensures c.in-Err.ensures.err.device in
+    let by = stops_by (IsFailedStore i.head c.args.side (view_of_side old c.args.side) c.args.lines.now c.in-Err.called) device new c.fail.result c.faults-from.result c.faults-to.result c.fail.ensures.fault c.faults-from.ensures c.faults-to.ensures c.in-Err.ensures.err.device in
     ((has_failed_store device new i.head i.sides c.store.new.self c.fail.new.sides i.known c.fail.new.known i.doubt c.args.side c.args.lines.now c.in-Err.called c.fail.result c.self.invariant.0 whole replay next c.in-Err.ensures.err c.fail.ensures.sides c.fail.ensures.known by).failed.sound, room_left c.store.new.self c.fail.new.sides c.in-Err.ensures.room c.fail.ensures.sides)
 
 pub returns-in-Err-clause-err : goal.returns-in-Err-clause-err
@@ -50,7 +50,7 @@ returns-in-Err-clause-err g c =
     let replay : IsReplay device = g.met.P.Pmem.is_replay i.device in
     let old : PairView = pair_view device i.head i.sides i.known i.doubt in
     let next : IsNext old c.args.side c.args.lines.now = subst (λ (was : PairView). IsNext was c.args.side c.args.lines.now) (sym c.self.view_is) c.requires.next in
-    let by = stops_by (IsFailedStore i.head c.args.side (side_of old c.args.side) c.args.lines.now c.in-Err.called) device new c.fail.result c.faults-from.result c.faults-to.result c.fail.ensures.fault c.faults-from.ensures c.faults-to.ensures c.in-Err.ensures.err.device in
+    let by = stops_by (IsFailedStore i.head c.args.side (view_of_side old c.args.side) c.args.lines.now c.in-Err.called) device new c.fail.result c.faults-from.result c.faults-to.result c.fail.ensures.fault c.faults-from.ensures c.faults-to.ensures c.in-Err.ensures.err.device in
     subst (λ (was : PairView). HasFailedStore c.args.side c.args.lines.now was c.fail.result (pair_view new i.head c.fail.new.sides c.fail.new.known (Some (record { side = c.args.side; called = c.in-Err.called })))) c.self.view_is
     (has_failed_store device new i.head i.sides c.store.new.self c.fail.new.sides i.known c.fail.new.known i.doubt c.args.side c.args.lines.now c.in-Err.called c.fail.result c.self.invariant.0 whole replay next c.in-Err.ensures.err c.fail.ensures.sides c.fail.ensures.known by)
 

@@ -6,7 +6,7 @@ use Rattle.pb_object.specs.declared.request.Ask.{Ask}
 use Rattle.pb_layout.specs.declared.header.Header.{Header}
 use Rattle.pb_pair.specs.Format.{IsFormatted, IsFormatRefusal}
 use Rattle.pb_pair.specs.Safe.{FormatCovers, FailedFormatCovers}
-use Rattle.pb_engine.specs.Opening.{IsFresh}
+use Rattle.pb_engine.specs.Opening.{IsFreshEngine}
 use Rattle.pb_queue.specs.View.{twin_view, IsTwin}
 use Rattle.pb_queue.proofs.Opening.{queue_header, AreFirstLines, HasFormatted, fresh_twin, fresh_is, fresh_refusal, fresh_memory}
 use Rattle.pb_queue.proofs.twin.TwinQueue.fresh.Goals as goal
@@ -44,7 +44,7 @@ returns-in-Ok-format-clause-ok g c =
     let formatted = subst (λ (ls : List Line). IsFormatted head ls lines old pair) c.lines.ensures (subst (λ (ls : List Line). IsFormatted head c.lines.result.now ls old pair) c.lines-2.ensures c.in-Ok-format.ensures.ok) in
     let has : HasFormatted c.args.clients c.args.size lines old pair c.in-Ok.items = record { first = first; formatted = formatted; items_are = c.in-Ok.ensures } in
     let safely = subst (λ (ls : List Line). FormatCovers head ls lines old pair.device) c.lines.ensures (subst (λ (ls : List Line). FormatCovers head c.lines.result.now ls old pair.device) c.lines-2.ensures c.in-Ok-format.ensures.safe) in
-    subst (λ (a : List Ask). IsFresh head old (twin_view pair c.in-Ok.items a)) (sym c.new.ensures) (fresh_is c.args.clients c.args.size lines old pair c.in-Ok.items has safely (g.met.P.Pmem.is_whole c.args.device))
+    subst (λ (a : List Ask). IsFreshEngine head old (twin_view pair c.in-Ok.items a)) (sym c.new.ensures) (fresh_is c.args.clients c.args.size lines old pair c.in-Ok.items has safely (g.met.P.Pmem.is_whole c.args.device))
 
 pub returns-in-Err-clause-err : goal.returns-in-Err-clause-err
 returns-in-Err-clause-err g c =
