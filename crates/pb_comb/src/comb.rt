@@ -9,7 +9,7 @@ use crate::serve::{agree, catch_up, serve};
 use arrayvec::ArrayVec;
 use pb_engine::{Engine, NextRecord};
 use pb_layout::{Header, kept_in_slot, record_len, record_line};
-use pb_object::{Ask, KEPT_REQUESTS, Kept, Kind, Object, Op};
+use pb_object::{Ask, KEPT_REQUESTS, Kept, Kind, Object};
 use pb_pair::{Pair, Refused, Why};
 use pb_pmem::{DeviceFault, Line, Pmem};
 use std::alloc::Global;
@@ -177,20 +177,10 @@ fn object_line_at(head: &Header, round: u64, place: u32) -> u32
 }
 
 impl<O: Object, P: Pmem> Engine for Comb<O, P> {
-    ghost use Rattle.pb_comb.specs.OneSide.{one_of_kind};
-
-    const KIND: Kind = O::KIND;
-
-    ghost KIND = { O.KIND };
-
-    const SIDES: u32 = 1;
-
-    ghost SIDES = { 1 };
-
     ghost seen = { λ comb. comb };
 
-    fn side(op: &Op) -> Option<u32> {
-        if O::accepts(op) { Some(0) } else { None }
+    fn kind(&self) -> Kind {
+        self.pair.header().kind
     }
 
     fn clients(&self) -> u32 {
@@ -243,6 +233,4 @@ impl<O: Object, P: Pmem> Engine for Comb<O, P> {
         self.asked.clear();
         Ok(recorded)
     }
-
-    ghost has_sides = { one_of_kind O.KIND O.is_no_queue };
 }

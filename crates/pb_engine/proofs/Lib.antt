@@ -5,6 +5,7 @@ pub mod Entries
 pub mod InUse
 pub mod Pairs
 pub mod Joining
+pub mod SameKind
 pub mod Known
 pub mod MadeFor
 pub mod Served

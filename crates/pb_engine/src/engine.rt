@@ -1,15 +1,14 @@
-ghost use Rattle.std.specs.Prelude.{◌≡◌, ℕ, ◌+◌, ◌<◌, true, false, Option, None, IfSome, IfErr, OnOk, OnErr, Ok, slice_index_or};
-ghost use Rattle.pb_object.specs.declared.kind.Kind.{Kind};
+ghost use Rattle.std.specs.Prelude.{◌≡◌, ◌+◌, ◌<◌, true, false, Option, None, IfSome, IfErr, OnOk, OnErr, Ok, slice_index_or};
 ghost use Rattle.pb_object.specs.History.{IsOfSide};
 ghost use Rattle.pb_object.specs.Request.{IsOperation, none_kept};
-ghost use Rattle.pb_object.specs.Standing.{side_count, rounds_of, kept_list_of, newest_of};
+ghost use Rattle.pb_object.specs.Standing.{rounds_of, kept_list_of, newest_of};
 ghost use Rattle.pb_engine.specs.Asks.{MayBeServed, asked_round};
 ghost use Rattle.pb_engine.specs.Covers.{RoundCovers, FailedRoundCovers, SettleCovers, FailedSettleCovers};
 ghost use Rattle.pb_engine.specs.Outcomes.{HasMade, HasFailedToMake, HasSettled, HasFailedToSettle};
 ghost use Rattle.pb_engine.specs.View.{EngineView, IsEngine, was_called};
 
 use arrayvec::ArrayVec;
-use pb_object::{Ask, KEPT_REQUESTS, Kept, Kind, Op};
+use pb_object::{Action, Ask, KEPT_REQUESTS, Kept, Kind, Op, is_operation};
 use pb_pmem::DeviceFault;
 
 /// A recoverable object over a device: a round makes up to sixteen requests durable at once.
@@ -17,28 +16,26 @@ use pb_pmem::DeviceFault;
 /// A contract sees it as an `EngineView`: the standing of its region as the engine last knew it for sure, the round in doubt, whether the
 /// engine is sure, and the device. No call takes memory.
 pub trait Engine: Drop {
-    /// The object's kind.
-    const KIND: Kind;
-
-    ghost KIND: { Kind };
-
-    /// How many sides the object has: operations of each are combined by themselves.
-    const SIDES: u32;
-
-    ghost SIDES: { ℕ };
-
     /// What contracts see of the engine.
     ghost seen: { Self → EngineView };
 
-    /// On which side an operation combines: 0, or 1 for a queue's takes. None for what is no operation of this kind.
-    fn side(op: &Op) -> Option<u32>
-        ensures some { IfSome result (λ side. IsOperation KIND op.now × IsOfSide side op.now) }
-        ensures none { result ≡ None → ¬ IsOperation KIND op.now };
+    /// The object's kind.
+    fn kind(&self) -> Kind
+        ensures { result ≡ (seen self.now).standing.kind };
+
+    /// On which side an operation combines: 0, or 1 for a queue's takes. None for what is no operation of the object's kind.
+    fn side(&self, op: &Op) -> Option<u32>
+        ensures some { IfSome result
+            (λ side. IsOperation (seen self.now).standing.kind op.now × IsOfSide side op.now) }
+        ensures none { result ≡ None → ¬ IsOperation (seen self.now).standing.kind op.now }
+    {
+        side_in(self.kind(), op)
+    }
 
     /// How many clients there are, in 1..=16.
     fn clients(&self) -> u32
         ensures count { result ≡ (seen self.now).standing.clients }
-        ensures sound { IsEngine KIND (seen self.now) };
+        ensures sound { IsEngine (seen self.now).standing.kind (seen self.now) };
 
     /// How many rounds there were, on all sides together.
     fn rounds(&self) -> u64
@@ -79,7 +76,7 @@ pub trait Engine: Drop {
         ensures safe { OnOk result (RoundCovers (asked_round (seen self.old).standing asks.now.items) (seen self.old) (seen self.new)) }
         ensures fails_safe { OnErr result
             (FailedRoundCovers (asked_round (seen self.old).standing asks.now.items) (seen self.old) (seen self.new)) }
-        ensures sound { IsEngine KIND (seen self.new) };
+        ensures sound { IsEngine (seen self.old).standing.kind (seen self.new) };
 
     /// Settles what an opening found or a failed round left. The engine is sure.
     ///
@@ -92,8 +89,16 @@ pub trait Engine: Drop {
         ensures err { IfErr result (λ fault. HasFailedToSettle fault (seen self.old) (seen self.new)) }
         ensures safe { OnOk result (SettleCovers (seen self.old) (seen self.new)) }
         ensures fails_safe { OnErr result (FailedSettleCovers (seen self.old) (seen self.new)) }
-        ensures sound { IsEngine KIND (seen self.new) };
+        ensures sound { IsEngine (seen self.old).standing.kind (seen self.new) };
+}
 
-    /// The sides are those of the object's kind.
-    ghost has_sides: { SIDES ≡ side_count KIND };
+// On which side an operation of this kind combines.
+fn side_in(kind: Kind, op: &Op) -> Option<u32>
+    ensures some { IfSome result (λ side. IsOperation kind op.now × IsOfSide side op.now) }
+    ensures none { result ≡ None → ¬ IsOperation kind op.now }
+{
+    match Action::from_code(op.code) {
+        Some(action) if is_operation(kind, op) => Some(action.side()),
+        _ => None,
+    }
 }

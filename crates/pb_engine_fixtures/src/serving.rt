@@ -12,7 +12,7 @@ pub fn may_be_served<E: Engine>(engine: &E, asks: &[Ask]) -> bool
     let Some(first) = asks.first() else {
         return false;
     };
-    match E::side(&first.op) {
+    match engine.side(&first.op) {
         Some(side) => are_next(engine, side, asks),
         None => false,
     }
@@ -41,5 +41,5 @@ fn is_next<E: Engine>(engine: &E, side: u32, ask: &Ask) -> bool
         return false;
     }
     let last = engine.kept(ask.client).number;
-    last < LAST_NUMBER && ask.number == last + 1 && E::side(&ask.op) == Some(side)
+    last < LAST_NUMBER && ask.number == last + 1 && engine.side(&ask.op) == Some(side)
 }

@@ -1,4 +1,4 @@
-ghost use Rattle.std.specs.Prelude.{◌≡◌, refl};
+ghost use Rattle.std.specs.Prelude.{◌≡◌};
 ghost use Rattle.pb_object.specs.declared.kind.Kind.TheVariants.{Queue};
 ghost use Rattle.pb_engine.specs.Asks.{side_asked};
 ghost use Rattle.pb_queue.specs.Items.{settled_items};
@@ -11,7 +11,7 @@ use crate::store::store_round;
 use arrayvec::ArrayVec;
 use pb_engine::{Engine, NextRecord};
 use pb_layout::{Header, record_len};
-use pb_object::{Action, Ask, Kept, Kind, Op, is_operation};
+use pb_object::{Action, Ask, Kept, Kind};
 use pb_pair::{Pair, Refused, Why};
 use pb_pmem::{DeviceFault, Pmem};
 use std::alloc::Global;
@@ -184,23 +184,10 @@ impl<P: Pmem> TwinQueue<P> {
 }
 
 impl<P: Pmem> Engine for TwinQueue<P> {
-    const KIND: Kind = Kind::Queue;
-
-    ghost KIND = { Queue };
-
-    const SIDES: u32 = 2;
-
-    ghost SIDES = { 2 };
-
-    ghost has_sides = { refl };
-
     ghost seen = { λ queue. queue };
 
-    fn side(op: &Op) -> Option<u32> {
-        match Action::from_code(op.code) {
-            Some(action) if is_operation(Kind::Queue, op) => Some(action.side()),
-            _ => None,
-        }
+    fn kind(&self) -> Kind {
+        self.pair.header().kind
     }
 
     fn clients(&self) -> u32 {

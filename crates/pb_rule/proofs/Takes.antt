@@ -207,3 +207,8 @@ module _ {X : Type 0} (seen : X → EngineView) (kind : Kind) (start : EngineVie
               let unsure : (r.engine.sure ≡ false) × (called_round r.engine.doubt ≡ r.m.ahead) = subst (λ (e : Engine). SuitsEngine e r.m.ahead r.engine) doubtful r.tied.suits in
               comes_hit r id turn found (get_or s.words 0 0) me refl plain here stage same turn_is free lying.0 lying.1 lying.2 Settling (ap first_work (ap (λ (e : EngineView). e.sure) lying.1 ∙ unsure.0))
               (taking_unsure (record { turn = turn; found = found; at = there; same = turn_is; unsure = doubtful; is = refl; says = refl }))
+
+  -- the same for a kind that is this one
+  pub takes_turn_of : (of : Kind) → kind ≡ of → (slots id turn found : ℕ) (me : Seated X) → IsPlain me → (the_view me).body.stage ≡ Taking turn found → Allows Rule slots id me 0 (λ n. either (eqb n turn) (turn + 1) n) (λ met new. HasTakenOrMissed seen of met me new)
+  takes_turn_of of same slots id turn found me plain stage =
+      subst (λ (k : Kind). Allows Rule slots id me 0 (λ n. either (eqb n turn) (turn + 1) n) (λ met new. HasTakenOrMissed seen k met me new)) same (takes_turn slots id turn found me plain stage)

@@ -26,7 +26,7 @@ impl<E: Engine> TableRule<Option<E>, Views, Snapshot<E>> for Rule<E> {
     ghost use Rattle.pb_rule.specs.View.{fresh_views};
     ghost use Rattle.pb_rule.specs.Rule.{Keeps};
 
-    ghost holds = { λ key. Keeps E.seen E.KIND (E.seen key.value) };
+    ghost holds = { λ key. Keeps E.seen (E.seen key.value).standing.kind (E.seen key.value) };
 
     ghost first = { λ key. fresh_views (E.seen key.value).standing.clients 0 (E.seen key.value).standing.kept };
 }

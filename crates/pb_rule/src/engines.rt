@@ -50,7 +50,7 @@ pub fn settle<E: Engine>(board: &Board<E>, seat: &mut Place<E>) -> Result<bool, 
     ensures ok { OnOk result (Settled (engine_now E.seen seat.old.me) (engine_now E.seen seat.new.me)) }
     ensures answer { OnOk result (result ≡ Ok (was_called (engine_now E.seen seat.old.me).doubt)) }
     ensures err { IfErr result (λ fault. FailedSettling fault (engine_now E.seen seat.old.me) (engine_now E.seen seat.new.me)) }
-    ensures sound { IsEngine E.KIND (engine_now E.seen seat.new.me) }
+    ensures sound { IsEngine (engine_now E.seen seat.old.me).standing.kind (engine_now E.seen seat.new.me) }
 {
     match seat.slot_mut(board, 0) {
         Some(engine) => engine.settle(),
@@ -73,7 +73,7 @@ pub fn make_round<E: Engine>(
     ensures holds { HoldsSlot seat.new.me }
     ensures ok { OnOk result (MadeRound asks.now.items (engine_now E.seen seat.old.me) (engine_now E.seen seat.new.me)) }
     ensures err { IfErr result (λ fault. FailedRound asks.now.items fault (engine_now E.seen seat.old.me) (engine_now E.seen seat.new.me)) }
-    ensures sound { IsEngine E.KIND (engine_now E.seen seat.new.me) }
+    ensures sound { IsEngine (engine_now E.seen seat.old.me).standing.kind (engine_now E.seen seat.new.me) }
 {
     match seat.slot_mut(board, 0) {
         Some(engine) => engine.round(asks),

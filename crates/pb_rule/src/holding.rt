@@ -21,7 +21,7 @@ pub fn load_request<E: Engine>(
     place: u32,
 ) -> u64
     requires at { IsAt board.now.table_id seat.old.table_id (the_view seat.old.me).clients }
-    requires ready { IsReadyFor E.seen E.KIND scanning_now seat.old.me }
+    requires ready { IsReadyFor E.seen (E.seen board.now.key.value).standing.kind scanning_now seat.old.me }
     requires client { (client < 16) × (client < (the_view seat.old.me).clients) }
     requires place { IsScanPlace (scanning_now (the_view seat.old.me).work) client place }
     ensures table { seat.new.table_id ≡ seat.old.table_id }
@@ -42,7 +42,7 @@ pub fn store_row<E: Engine>(
     word: u64,
 )
     requires at { IsAt board.now.table_id seat.old.table_id (the_view seat.old.me).clients }
-    requires ready { IsReadyFor E.seen E.KIND filling_now seat.old.me }
+    requires ready { IsReadyFor E.seen (E.seen board.now.key.value).standing.kind filling_now seat.old.me }
     requires client { (client < 16) × (client < (the_view seat.old.me).clients) }
     requires row { row ≡ suc (the_view seat.old.me).body.front % 2 }
     requires place { (place < 4) × (filling_now (the_view seat.old.me).work ≡ Filling (4 * client + place)) }
@@ -57,7 +57,7 @@ pub fn store_row<E: Engine>(
 /// Publishes the round: the turn is free, and the engine lies in its slot.
 pub fn publish<E: Engine>(board: &Board<E>, seat: &mut Place<E>, turn: u64)
     requires at { IsAt board.now.table_id seat.old.table_id (the_view seat.old.me).clients }
-    requires ready { IsReadyFor E.seen E.KIND same_work seat.old.me }
+    requires ready { IsReadyFor E.seen (E.seen board.now.key.value).standing.kind same_work seat.old.me }
     requires filled { (the_view seat.old.me).work ≡ Filling (4 * (the_view seat.old.me).clients) }
     requires same { engine_now E.seen seat.old.me ≡ engine_before seat.old.me }
     requires turn { turn ≡ 2 * suc (the_view seat.old.me).body.front }
@@ -70,7 +70,7 @@ pub fn publish<E: Engine>(board: &Board<E>, seat: &mut Place<E>, turn: u64)
 /// Stores the count of faults, after a call of the device failed.
 pub fn note_faults<E: Engine>(board: &Board<E>, seat: &mut Place<E>, count: u64)
     requires at { IsAt board.now.table_id seat.old.table_id (the_view seat.old.me).clients }
-    requires ready { IsReadyFor E.seen E.KIND (notes_now (engine_before seat.old.me) (engine_now E.seen seat.old.me)) seat.old.me }
+    requires ready { IsReadyFor E.seen (E.seen board.now.key.value).standing.kind (notes_now (engine_before seat.old.me) (engine_now E.seen seat.old.me)) seat.old.me }
     requires count { count ≡ (engine_now E.seen seat.old.me).device.faults }
     ensures table { seat.new.table_id ≡ seat.old.table_id }
     ensures seen { seat.new.me ≡ note_step E.seen seat.old.me }
@@ -81,7 +81,7 @@ pub fn note_faults<E: Engine>(board: &Board<E>, seat: &mut Place<E>, count: u64)
 /// Gives up the turn.
 pub fn give_up<E: Engine>(board: &Board<E>, seat: &mut Place<E>, turn: u64)
     requires at { IsAt board.now.table_id seat.old.table_id (the_view seat.old.me).clients }
-    requires ready { IsReadyFor E.seen E.KIND same_work seat.old.me }
+    requires ready { IsReadyFor E.seen (E.seen board.now.key.value).standing.kind same_work seat.old.me }
     requires noted { IsGivingUp (the_view seat.old.me).work }
     requires same { engine_now E.seen seat.old.me ≡ engine_before seat.old.me }
     requires turn { turn ≡ 2 * (the_view seat.old.me).body.front }

@@ -74,7 +74,7 @@ fn engine_of<E: Engine>(refused: Refused<Option<E>, Global>) -> E
 // The words at first: both reply rows have each client's kept number and reply, and all others are 0.
 fn start_words<E: Engine>(alloc: Global, engine: &E) -> Result<Vec<u64>, AllocError>
     ensures ok { IfOk result (λ start. HasStart (E.seen engine.now).standing (E.seen engine.now).standing.clients 0 start.items) }
-    ensures sound { IsEngine E.KIND (E.seen engine.now) }
+    ensures sound { IsEngine (E.seen engine.now).standing.kind (E.seen engine.now) }
 {
     let clients = engine.clients();
     let mut start = vec![in alloc; 0u64; words(clients) as usize]?;
@@ -147,7 +147,8 @@ pub fn take_engine<E: Engine>(table: Words<E>, seat: Place<E>) -> E
     requires table { (seat.table_id ≡ table.shared.table_id) × (table.shared.table_id.slots ≡ 1) }
     requires all { (client : ℕ) → client < (E.seen table.shared.key.value).standing.clients → IsThere client seat.me.0 }
     requires free { AreFree seat.me.0 }
-    ensures { HasEnded E.KIND (E.seen table.shared.key.value) (E.seen result) seat.me.0 }
+    ensures { HasEnded (E.seen table.shared.key.value).standing.kind (E.seen table.shared.key.value)
+        (E.seen result) seat.me.0 }
 {
     let mut closed = table.close_with(seat);
     let slot = closed.take(0);

@@ -20,6 +20,19 @@ impl Asking for Brand {
     ghost ask = { no_ask };
 }
 
+/// The kind of the table's object, for contracts alone: the call that takes the turn picks it.
+pub trait OfKind {
+    ghost use Rattle.pb_object.specs.declared.kind.Kind.{Kind};
+
+    ghost kind: { Kind };
+}
+
+impl OfKind for Brand {
+    ghost use Rattle.pb_object.specs.declared.kind.Kind.TheVariants.{Map};
+
+    ghost kind = { Map };
+}
+
 /// A client stores the code of the request that it asks.
 pub struct StoresCode<A> {
     asking: PhantomData<A>,
@@ -79,10 +92,12 @@ impl<E: Engine> Play<Option<E>, Views> for FindsWord {
 }
 
 /// A waiting client takes the turn, or finds that another was first.
-pub struct TakesTurn;
+pub struct TakesTurn<K> {
+    kind: PhantomData<K>,
+}
 
-impl<E: Engine> Play<Option<E>, Views> for TakesTurn {
-    ghost then = { λ _ old found new. HasTakenOrMissed E.seen E.KIND found old new };
+impl<E: Engine, K: OfKind> Play<Option<E>, Views> for TakesTurn<K> {
+    ghost then = { λ _ old found new. HasTakenOrMissed E.seen K.kind found old new };
 }
 
 /// The holder loads a word of a client's request.

@@ -68,7 +68,7 @@ pub fn work_all<R: Wait + Threads + Sync, E: Engine + Send, G: Gate>(
     workers: &mut Vec<Worker<E>>,
     gate: &G,
 )
-    requires { AreReady (λ worker. worker.pass) (λ worker. worker.lines) E.KIND object.now workers.old.items }
+    requires { AreReady (λ worker. worker.pass) (λ worker. worker.lines) object.now.start.standing.kind object.now workers.old.items }
     ensures long { length workers.new.items ≡ length workers.old.items }
     ensures through { AreThrough (λ worker. worker.pass) (λ worker. worker.lines) object.now workers.old.items workers.new.items }
 {
@@ -78,7 +78,7 @@ pub fn work_all<R: Wait + Threads + Sync, E: Engine + Send, G: Gate>(
         workers.as_mut_slice(),
         threads,
         &|_, worker|
-            requires { IsReady E.KIND object.now worker.now.pass worker.now.lines.asks.items }
+            requires { IsReady object.now.start.standing.kind object.now worker.now.pass worker.now.lines.asks.items }
             ensures { IsThrough (λ w. w.pass) (λ w. w.lines) object.entry.now worker.entry.now worker.exit.now }
         { work(rt, object, worker, gate) },
     );

@@ -36,7 +36,7 @@ pub fn run_script<R: Wait + Threads + Sync, E: Engine + Send, G: Gate>(
     gate: &G,
 ) -> Result<E, (AllocError, E)>
     requires sure { (E.seen engine).sure ≡ true }
-    requires asks { All (IsAskOf E.KIND (E.seen engine).standing.clients) asks.now }
+    requires asks { All (IsAskOf (E.seen engine).standing.kind (E.seen engine).standing.clients) asks.now }
     requires places { length outcomes.old ≡ length asks.now }
     ensures run { IfOk result (λ now. HasRun (E.seen engine) asks.now (E.seen now) outcomes.new) }
     ensures err { IfErr result (λ refused. refused.1 ≡ engine) }

@@ -28,7 +28,7 @@ pub fn work<R: Wait, E: Engine, G: Gate>(
     worker: &mut Worker<E>,
     gate: &G,
 )
-    requires { IsReady E.KIND object.now worker.old.pass worker.old.lines.asks.items }
+    requires { IsReady object.now.start.standing.kind object.now worker.old.pass worker.old.lines.asks.items }
     ensures asks { worker.new.lines.asks.items ≡ worker.old.lines.asks.items }
     ensures worked { HasWorked object.now worker.old.pass worker.old.lines.asks.items worker.new.lines.outcomes.items worker.new.pass }
 {
@@ -50,7 +50,7 @@ fn next_outcome<R: Wait, E: Engine, G: Gate>(
     left: bool,
     gate: &G,
 ) -> Outcome
-    requires line { IsLineOf E.KIND object.now pass.old ask.now }
+    requires line { IsLineOf object.now.start.standing.kind object.now pass.old ask.now }
     requires idle { left ≡ false → IsIdle pass.old }
     ensures of { IsOf object.now pass.new × (pass.new.view.client ≡ pass.old.view.client) }
     ensures next { RunsLine left ask.now pass.old.view pass.new.view result }

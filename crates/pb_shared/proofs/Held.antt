@@ -17,6 +17,7 @@ use Rattle.pb_core.specs.Memory.{AtNumber, Work, Settling, Scanning, side_of}
 use Rattle.pb_core.specs.WordMoves.{answered}
 use Rattle.pb_core.proofs.Histories.{shape_after}
 use Rattle.pb_engine.specs.Asks.{MayBeServed, answered_from, asked_round}
+use Rattle.pb_engine.proofs.SameKind.{of_same_kind}
 use Rattle.pb_engine.specs.View.{EngineView, IsEngine, FailedRound, settled_standing, settled_by, was_called}
 use Rattle.pb_engine.proofs.Joining.{round_kept}
 use Rattle.pb_engine.proofs.Served.{answered_from-none, answered_from-more, served_is_legal}
@@ -201,7 +202,7 @@ module _ {X : Type 0} (seen : X → EngineView) (kind : Kind) where
     pub all : clients ≡ start.clients
     pub views : other.0 ≡ me.0
     pub holds : HoldsSlot other
-    pub sound : IsEngine kind (engine_now seen other)
+    pub sound : IsEngine (engine_now seen me).standing.kind (engine_now seen other)
 
   module _ {start : PassView} {engine : EngineView} {clients : ℕ} {asks : List Ask} {looked : List Look} {me other : Seated X} (h : HasCalled start engine clients asks looked me other) where
     abbrev v : PassView
@@ -242,7 +243,7 @@ module _ {X : Type 0} (seen : X → EngineView) (kind : Kind) where
     made_filling made = record {
       ready = record {
         holds = h.holds;
-        sound = h.sound;
+        sound = of_same_kind kind (engine_now seen me) (engine_now seen other) h.after.ready.sound h.sound;
         hand = hand_before;
         ready = recorded asks work_all (subst (λ (e : EngineView). MadeRound asks e (engine_now seen other)) (h.after.now ∙ sym before_is) made) (ap filling_now work_is);
       };
@@ -263,7 +264,7 @@ module _ {X : Type 0} (seen : X → EngineView) (kind : Kind) where
     made_failed fault failed =
         let here = subst (λ (e : EngineView). FailedMaking asks fault e (engine_now seen other)) (h.after.now ∙ sym before_is) failed in
         record {
-          ready = record { holds = h.holds; sound = h.sound; hand = hand_before; ready = failed_round asks fault work_all here refl };
+          ready = record { holds = h.holds; sound = of_same_kind kind (engine_now seen me) (engine_now seen other) h.after.ready.sound h.sound; hand = hand_before; ready = failed_round asks fault work_all here refl };
           from = here.failed.device.from;
           to = here.failed.device.to;
           rose = subst (λ (n : ℕ). Rose n fault.to) (sym here.failed.device.from) (subst (Rose (engine_before other).device.faults) (sym here.failed.device.to) here.failed.device.stops.rose);
@@ -324,7 +325,10 @@ module _ {X : Type 0} (seen : X → EngineView) (kind : Kind) where
         work : (the_view me).work ≡ Scanning 0 AtNumber []
         work = h.work ∙ ap first_work sure
 
-    module _ (unsure : (engine_now seen me).sure ≡ false) (other : Seated X) (views : other.0 ≡ me.0) (holds : HoldsSlot other) (sound : IsEngine kind (engine_now seen other)) where
+    module _ (unsure : (engine_now seen me).sure ≡ false) (other : Seated X) (views : other.0 ≡ me.0) (holds : HoldsSlot other) (of_kind : IsEngine (engine_now seen me).standing.kind (engine_now seen other)) where
+      sound : IsEngine kind (engine_now seen other)
+      sound = of_same_kind kind (engine_now seen me) (engine_now seen other) h.sound of_kind
+
       same_view : the_view other ≡ the_view me
       same_view = ap view_in views
 

@@ -16,7 +16,7 @@ pub fn announce_request<E: Engine>(board: &Board<E>, seat: &mut Place<E>, ask: &
     requires at { IsAt board.now.table_id seat.old.table_id (the_view seat.old.me).clients }
     requires plain { IsPlain seat.old.me }
     requires idle { (the_view seat.old.me).body.stage ≡ Idle }
-    requires next { IsNextOf E.KIND (the_view seat.old.me) ask.now }
+    requires next { IsNextOf (E.seen board.now.key.value).standing.kind (the_view seat.old.me) ask.now }
     ensures table { seat.new.table_id ≡ seat.old.table_id }
     ensures seen { seat.new.me ≡ with_view (has_announced ask.now) seat.old.me }
 {

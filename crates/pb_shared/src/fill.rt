@@ -29,9 +29,9 @@ pub fn finish<E: Engine>(
     requires client { (client ≡ (the_view seat.old.me).client) × (client < clients) }
     requires row { row ≡ suc (the_view seat.old.me).body.front % 2 }
     requires turn { turn ≡ 2 * suc (the_view seat.old.me).body.front }
-    requires filling { HasFilling E.seen E.KIND 0 seat.old.me }
+    requires filling { HasFilling E.seen (E.seen board.now.key.value).standing.kind 0 seat.old.me }
     ensures table { seat.new.table_id ≡ seat.old.table_id }
-    ensures published { (start : PassView) (engine : EngineView) (own : Option OwnRound) → IsFilling E.seen E.KIND start engine own 0 seat.old.me
+    ensures published { (start : PassView) (engine : EngineView) (own : Option OwnRound) → IsFilling E.seen (E.seen board.now.key.value).standing.kind start engine own 0 seat.old.me
         → (seat.new.me ≡ (after_publishing engine own start ∷ [], [])) × (result ≡ newest_of engine.standing client) }
 {
     fill(board, seat, clients, row);
@@ -45,9 +45,9 @@ fn fill<E: Engine>(board: &Board<E>, seat: &mut Place<E>, clients: u32, row: u32
     requires at { IsAt board.now.table_id seat.old.table_id clients }
     requires clients { (clients ≡ (the_view seat.old.me).clients) × (clients ≤ 16) }
     requires row { row ≡ suc (the_view seat.old.me).body.front % 2 }
-    requires filling { HasFilling E.seen E.KIND 0 seat.old.me }
+    requires filling { HasFilling E.seen (E.seen board.now.key.value).standing.kind 0 seat.old.me }
     ensures table { seat.new.table_id ≡ seat.old.table_id }
-    ensures filled { (start : PassView) (engine : EngineView) (own : Option OwnRound) → IsFilling E.seen E.KIND start engine own 0 seat.old.me → IsFilling E.seen E.KIND start engine own (4 * clients) seat.new.me }
+    ensures filled { (start : PassView) (engine : EngineView) (own : Option OwnRound) → IsFilling E.seen (E.seen board.now.key.value).standing.kind start engine own 0 seat.old.me → IsFilling E.seen (E.seen board.now.key.value).standing.kind start engine own (4 * clients) seat.new.me }
 {
     for client in 0..clients {
         fill_client(board, seat, client, row);
@@ -59,9 +59,9 @@ fn fill_client<E: Engine>(board: &Board<E>, seat: &mut Place<E>, client: u32, ro
     requires at { IsAt board.now.table_id seat.old.table_id (the_view seat.old.me).clients }
     requires client { (client < (the_view seat.old.me).clients) × (client < 16) }
     requires row { row ≡ suc (the_view seat.old.me).body.front % 2 }
-    requires filling { HasFilling E.seen E.KIND (4 * client) seat.old.me }
+    requires filling { HasFilling E.seen (E.seen board.now.key.value).standing.kind (4 * client) seat.old.me }
     ensures table { seat.new.table_id ≡ seat.old.table_id }
-    ensures filled { (start : PassView) (engine : EngineView) (own : Option OwnRound) → IsFilling E.seen E.KIND start engine own (4 * client) seat.old.me → IsFilling E.seen E.KIND start engine own (4 * client + 4) seat.new.me }
+    ensures filled { (start : PassView) (engine : EngineView) (own : Option OwnRound) → IsFilling E.seen (E.seen board.now.key.value).standing.kind start engine own (4 * client) seat.old.me → IsFilling E.seen (E.seen board.now.key.value).standing.kind start engine own (4 * client + 4) seat.new.me }
 {
     let kept = kept_of(board, seat, client);
     fill_word(board, seat, client, row, 0, kept.number);
@@ -83,11 +83,11 @@ fn fill_word<E: Engine>(
     requires client { (client < (the_view seat.old.me).clients) × (client < 16) }
     requires row { row ≡ suc (the_view seat.old.me).body.front % 2 }
     requires place { place < 4 }
-    requires filling { HasFilling E.seen E.KIND (4 * client + place) seat.old.me }
+    requires filling { HasFilling E.seen (E.seen board.now.key.value).standing.kind (4 * client + place) seat.old.me }
     requires word { word ≡ word_of_row (newest_of (engine_now E.seen seat.old.me).standing client) place }
     ensures table { seat.new.table_id ≡ seat.old.table_id }
     ensures same { ((the_view seat.new.me).clients ≡ (the_view seat.old.me).clients) × ((the_view seat.new.me).body ≡ (the_view seat.old.me).body) × (engine_now E.seen seat.new.me ≡ engine_now E.seen seat.old.me) }
-    ensures filled { (start : PassView) (engine : EngineView) (own : Option OwnRound) → IsFilling E.seen E.KIND start engine own (4 * client + place) seat.old.me → IsFilling E.seen E.KIND start engine own (4 * client + place + 1) seat.new.me }
+    ensures filled { (start : PassView) (engine : EngineView) (own : Option OwnRound) → IsFilling E.seen (E.seen board.now.key.value).standing.kind start engine own (4 * client + place) seat.old.me → IsFilling E.seen (E.seen board.now.key.value).standing.kind start engine own (4 * client + place + 1) seat.new.me }
 {
     store_row(board, seat, client, row, place, word);
 }

@@ -32,7 +32,7 @@ pub fn hold<E: Engine>(
     requires clients { (clients ≡ (the_view seat.old.me).clients) × (clients ≤ 16) }
     requires ask { ask.now ≡ (the_view seat.old.me).body.ask }
     requires client { (ask.now.client ≡ (the_view seat.old.me).client) × (ask.now.client < clients) }
-    requires holding { IsHolding E.seen E.KIND turn seat.old.me }
+    requires holding { IsHolding E.seen (E.seen board.now.key.value).standing.kind turn seat.old.me }
     requires room { turn + 2 < 2 ^ 64 }
     ensures table { seat.new.table_id ≡ seat.old.table_id }
     ensures plain { IsPlain seat.new.me }
@@ -61,7 +61,7 @@ fn combine<E: Engine>(
     requires clients { (clients ≡ (the_view seat.old.me).clients) × (clients ≤ 16) }
     requires ask { ask.now ≡ (the_view seat.old.me).body.ask }
     requires client { (ask.now.client ≡ (the_view seat.old.me).client) × (ask.now.client < clients) }
-    requires scan { IsScanning E.seen E.KIND (the_view seat.old.me) (engine_now E.seen seat.old.me) 0 [] seat.old.me }
+    requires scan { IsScanning E.seen (E.seen board.now.key.value).standing.kind (the_view seat.old.me) (engine_now E.seen seat.old.me) 0 [] seat.old.me }
     requires sure { (engine_now E.seen seat.old.me).sure ≡ true }
     requires turn { turn ≡ 2 * (the_view seat.old.me).body.front }
     requires room { turn + 2 < 2 ^ 64 }
@@ -96,7 +96,7 @@ fn publish_settled<E: Engine>(
     requires clients { (clients ≡ (the_view seat.old.me).clients) × (clients ≤ 16) }
     requires ask { ask.now ≡ (the_view seat.old.me).body.ask }
     requires client { (ask.now.client ≡ (the_view seat.old.me).client) × (ask.now.client < clients) }
-    requires filling { IsFilling E.seen E.KIND (the_view seat.old.me) (engine_now E.seen seat.old.me) None 0 seat.old.me }
+    requires filling { IsFilling E.seen (E.seen board.now.key.value).standing.kind (the_view seat.old.me) (engine_now E.seen seat.old.me) None 0 seat.old.me }
     requires turn { turn ≡ 2 * (the_view seat.old.me).body.front }
     requires room { turn + 2 < 2 ^ 64 }
     ensures table { seat.new.table_id ≡ seat.old.table_id }
@@ -129,7 +129,7 @@ fn abandon<E: Engine>(
     fault: &DeviceFault,
 ) -> Attempt
     requires at { IsAt board.now.table_id seat.old.table_id (the_view seat.old.me).clients }
-    requires failed { HasFailed E.seen E.KIND fault.now seat.old.me }
+    requires failed { HasFailed E.seen (E.seen board.now.key.value).standing.kind fault.now seat.old.me }
     requires turn { turn ≡ 2 * (the_view seat.old.me).body.front }
     ensures table { seat.new.table_id ≡ seat.old.table_id }
     ensures given { seat.new.me ≡ (after_fault fault.now (the_view seat.old.me) ∷ [], []) }

@@ -23,7 +23,7 @@ pub fn all_lists<E: Engine>(
     clients: u32,
 ) -> Result<Vec<ArrayVec<Kept, 8>>, AllocError>
     requires clients { clients ≡ (E.seen engine.now).standing.clients }
-    requires sound { IsEngine E.KIND (E.seen engine.now) }
+    requires sound { IsEngine (E.seen engine.now).standing.kind (E.seen engine.now) }
     ensures long { IfOk result (λ lists. vec_len lists ≡ clients) }
     ensures kept { IfOk result (λ lists. lists_kept lists.items ≡ (E.seen engine.now).standing.kept) }
 {

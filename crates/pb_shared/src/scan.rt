@@ -24,10 +24,10 @@ pub fn scan<E: Engine>(
 ) -> ArrayVec<Ask, 16>
     requires at { IsAt board.now.table_id seat.old.table_id clients }
     requires clients { (clients ≡ (the_view seat.old.me).clients) × (clients ≤ 16) }
-    requires scan { HasScan E.seen E.KIND 0 [] seat.old.me }
+    requires scan { HasScan E.seen (E.seen board.now.key.value).standing.kind 0 [] seat.old.me }
     requires side { side ≡ side_of_op (the_view seat.old.me).body.ask.op }
     ensures table { seat.new.table_id ≡ seat.old.table_id }
-    ensures scanned { (start : PassView) (engine : EngineView) → IsScanning E.seen E.KIND start engine 0 [] seat.old.me → IsScanning E.seen E.KIND start engine clients result.items seat.new.me }
+    ensures scanned { (start : PassView) (engine : EngineView) → IsScanning E.seen (E.seen board.now.key.value).standing.kind start engine 0 [] seat.old.me → IsScanning E.seen (E.seen board.now.key.value).standing.kind start engine clients result.items seat.new.me }
 {
     let mut asks = ArrayVec::<Ask, 16>::new();
     for client in 0..clients {
@@ -46,12 +46,12 @@ fn scan_client<E: Engine>(
 )
     requires at { IsAt board.now.table_id seat.old.table_id (the_view seat.old.me).clients }
     requires client { (client < (the_view seat.old.me).clients) × (client < 16) }
-    requires scan { HasScan E.seen E.KIND client asks.old.items seat.old.me }
+    requires scan { HasScan E.seen (E.seen board.now.key.value).standing.kind client asks.old.items seat.old.me }
     requires side { side ≡ side_of_op (the_view seat.old.me).body.ask.op }
     requires few { length asks.old.items ≤ client }
     ensures table { seat.new.table_id ≡ seat.old.table_id }
     ensures few { length asks.new.items ≤ client + 1 }
-    ensures scanned { (start : PassView) (engine : EngineView) → IsScanning E.seen E.KIND start engine client asks.old.items seat.old.me → IsScanning E.seen E.KIND start engine (client + 1) asks.new.items seat.new.me }
+    ensures scanned { (start : PassView) (engine : EngineView) → IsScanning E.seen (E.seen board.now.key.value).standing.kind start engine client asks.old.items seat.old.me → IsScanning E.seen (E.seen board.now.key.value).standing.kind start engine (client + 1) asks.new.items seat.new.me }
 {
     let kept = kept_of(board, seat, client);
     let number = load_part(board, seat, client, 0);
@@ -68,10 +68,10 @@ fn scan_client<E: Engine>(
 fn load_operation<E: Engine>(board: &Board<E>, seat: &mut Place<E>, client: u32) -> Op
     requires at { IsAt board.now.table_id seat.old.table_id (the_view seat.old.me).clients }
     requires client { (client < (the_view seat.old.me).clients) × (client < 16) }
-    requires operation { HasOperation E.seen E.KIND client seat.old.me }
+    requires operation { HasOperation E.seen (E.seen board.now.key.value).standing.kind client seat.old.me }
     ensures table { seat.new.table_id ≡ seat.old.table_id }
-    ensures loaded { (start : PassView) (engine : EngineView) (number : ℕ) (asks : List Ask) (looked : List Look) → IsAtPart E.seen E.KIND start engine client (AtCode number) asks looked seat.old.me
-        → IsAfter E.seen E.KIND start engine (Scanning (suc client) AtNumber (seen_with (side_of_op start.body.ask.op) asks (record { client = client; number = number; op = result }))) (looked ++ record { client = client; number = number; op = Some result } ∷ []) seat.new.me }
+    ensures loaded { (start : PassView) (engine : EngineView) (number : ℕ) (asks : List Ask) (looked : List Look) → IsAtPart E.seen (E.seen board.now.key.value).standing.kind start engine client (AtCode number) asks looked seat.old.me
+        → IsAfter E.seen (E.seen board.now.key.value).standing.kind start engine (Scanning (suc client) AtNumber (seen_with (side_of_op start.body.ask.op) asks (record { client = client; number = number; op = result }))) (looked ++ record { client = client; number = number; op = Some result } ∷ []) seat.new.me }
 {
     let code = load_part(board, seat, client, 1);
     let a = load_part(board, seat, client, 2);
@@ -84,10 +84,10 @@ fn load_operation<E: Engine>(board: &Board<E>, seat: &mut Place<E>, client: u32)
 fn load_part<E: Engine>(board: &Board<E>, seat: &mut Place<E>, client: u32, place: u32) -> u64
     requires at { IsAt board.now.table_id seat.old.table_id (the_view seat.old.me).clients }
     requires client { (client < (the_view seat.old.me).clients) × (client < 16) }
-    requires part { HasPart E.seen E.KIND client place seat.old.me }
+    requires part { HasPart E.seen (E.seen board.now.key.value).standing.kind client place seat.old.me }
     ensures table { seat.new.table_id ≡ seat.old.table_id }
-    ensures next { (start : PassView) (engine : EngineView) (part : Part) (asks : List Ask) (looked : List Look) → IsAtPart E.seen E.KIND start engine client part asks looked seat.old.me
-        → IsAfter E.seen E.KIND start engine (next_work engine start client result part asks) (next_looked engine client result part looked) seat.new.me }
+    ensures next { (start : PassView) (engine : EngineView) (part : Part) (asks : List Ask) (looked : List Look) → IsAtPart E.seen (E.seen board.now.key.value).standing.kind start engine client part asks looked seat.old.me
+        → IsAfter E.seen (E.seen board.now.key.value).standing.kind start engine (next_work engine start client result part asks) (next_looked engine client result part looked) seat.new.me }
     ensures same { (the_view seat.new.me).clients ≡ (the_view seat.old.me).clients }
 {
     load_request(board, seat, client, place)

@@ -65,7 +65,7 @@ impl<E: Engine> Shared<E> {
     pub fn announce(&self, pass: &mut Pass<E>, op: &Op) -> u64
         requires of { IsOf self.now pass.old }
         requires idle { IsIdle pass.old }
-        requires operation { IsOperation E.KIND op.now }
+        requires operation { IsOperation self.now.start.standing.kind op.now }
         requires few { (newest pass.old.view.body.kept).number < LAST_NUMBER }
         ensures number { result ≡ next_number pass.old }
         ensures announced { pass.new ≡ announces op.now pass.old }
@@ -104,7 +104,7 @@ impl<E: Engine> Shared<E> {
     pub fn again(&self, pass: &mut Pass<E>, number: u64, op: &Op) -> Again
         requires of { IsOf self.now pass.old }
         requires idle { IsIdle pass.old }
-        requires operation { IsOperation E.KIND op.now }
+        requires operation { IsOperation self.now.start.standing.kind op.now }
         requires number { (1 ≤ number) × (number ≤ LAST_NUMBER) }
         ensures judged { result ≡ again_on pass.old.view.body.kept number op.now }
         ensures announced { pass.new ≡ asked_again result op.now pass.old }
@@ -141,7 +141,7 @@ impl<E: Engine> Shared<E> {
     /// Ends the sharing, and hands the engine back. Pending requests are forgotten.
     pub fn close(self, passes: Vec<Pass<E>>) -> E
         requires all { AreAll self passes.items }
-        ensures { HasEnded E.KIND self.start (E.seen result) (map view_of passes.items) }
+        ensures { HasEnded self.start.standing.kind self.start (E.seen result) (map view_of passes.items) }
     {
         let Shared { table, clients: _ } = self;
         let seat = join_all(&table.shared, passes);

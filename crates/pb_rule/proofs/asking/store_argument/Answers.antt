@@ -7,5 +7,5 @@ pub store-requires : goal.store-requires
 store-requires g c = (
   c.requires.at.same,
   request_within c.args.client (c.args.place + 1) _ _ _ c.request_word-word.ensures c.requires.client.2 (omega (arith, c.requires.place.1)) c.requires.at.words,
-  stores_argument g.E.Engine.seen g.E.Engine.KIND (g.E.Engine.seen c.args.board.now.key.value) _ _ _ c.args.client c.args.place c.args.argument c.args.seat.now.me c.request_word-word.ensures c.requires.client.0 c.requires.plain c.requires.place.1 c.requires.storing c.requires.argument,
+  stores_argument g.E.Engine.seen (g.E.Engine.seen c.args.board.now.key.value).standing.kind (g.E.Engine.seen c.args.board.now.key.value) _ _ _ c.args.client c.args.place c.args.argument c.args.seat.now.me c.request_word-word.ensures c.requires.client.0 c.requires.plain c.requires.place.1 c.requires.storing c.requires.argument,
 )

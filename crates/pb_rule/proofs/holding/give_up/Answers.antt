@@ -6,5 +6,5 @@ pub store-requires : goal.store-requires
 store-requires g c = (
   c.requires.at.same,
   omega (arith, c.requires.at.words),
-  gives_up g.E.Engine.seen g.E.Engine.KIND (g.E.Engine.seen c.args.board.now.key.value) _ _ c.args.turn c.args.seat.now.me c.requires.ready c.requires.noted c.requires.same c.requires.turn,
+  gives_up g.E.Engine.seen (g.E.Engine.seen c.args.board.now.key.value).standing.kind (g.E.Engine.seen c.args.board.now.key.value) _ _ c.args.turn c.args.seat.now.me c.requires.ready c.requires.noted c.requires.same c.requires.turn,
 )

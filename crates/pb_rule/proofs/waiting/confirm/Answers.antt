@@ -4,4 +4,4 @@ use Rattle.pb_rule.proofs.waiting.confirm.Goals as goal
 
 pub load-requires : goal.load-requires
 load-requires g c =
-    (c.requires.at.same, omega (arith, c.requires.at.words), confirms_turn g.E.Engine.seen g.E.Engine.KIND (g.E.Engine.seen c.args.board.now.key.value) _ _ c.args.seat.now.me c.requires.plain c.requires.stage)
+    (c.requires.at.same, omega (arith, c.requires.at.words), confirms_turn g.E.Engine.seen (g.E.Engine.seen c.args.board.now.key.value).standing.kind (g.E.Engine.seen c.args.board.now.key.value) _ _ c.args.seat.now.me c.requires.plain c.requires.stage)

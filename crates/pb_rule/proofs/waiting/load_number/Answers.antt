@@ -7,5 +7,5 @@ pub load-requires : goal.load-requires
 load-requires g c = (
   c.requires.at.same,
   row_within c.args.client c.args.row 0 _ _ _ c.row_word-word.ensures c.requires.client.2 (odd_below _ c.args.row c.requires.row) (omega arith) c.requires.at.words,
-  finds_number_at g.E.Engine.seen g.E.Engine.KIND (g.E.Engine.seen c.args.board.now.key.value) _ _ _ c.args.client c.args.row c.args.seat.now.me c.row_word-word.ensures c.requires.plain c.requires.client.0 c.requires.row c.requires.stage,
+  finds_number_at g.E.Engine.seen (g.E.Engine.seen c.args.board.now.key.value).standing.kind (g.E.Engine.seen c.args.board.now.key.value) _ _ _ c.args.client c.args.row c.args.seat.now.me c.row_word-word.ensures c.requires.plain c.requires.client.0 c.requires.row c.requires.stage,
 )

@@ -1,6 +1,8 @@
 use Rattle.std.proofs.Common.{ℕ, List, length, map, arith, sym, subst, ap, ◌∙◌}
-use Rattle.pb_engine.specs.View.{EngineView}
+use Rattle.std.specs.List.{All}
+use Rattle.pb_engine.specs.View.{EngineView, IsEngine}
 use Rattle.pb_rule.specs.Opening.{HasEnded}
+use Rattle.pb_script.specs.Script.{IsAskOf}
 use Rattle.pb_shared.specs.Passes.{PassSeen, AreAll, view_of}
 use Rattle.pb_run.specs.declared.worker.Worker.{Worker}
 use Rattle.pb_run.specs.Crew.{HaveAsksOf, AreBroughtTogether}
@@ -18,7 +20,10 @@ hire-requires-clause-room g c =
 
 pub work_all-requires-after_bounds : goal.work_all-requires-after_bounds
 work_all-requires-after_bounds g c κs within =
-    all_ready (λ worker. worker.pass) (λ worker. worker.lines) c.in_ok-object.ensures.ok c.clients-clients.ensures.sound c.args.asks.now c.requires.asks
+    let begun = sym c.in_ok-object.ensures.ok.of in
+    let sound = subst (λ (start : EngineView). IsEngine start.standing.kind (g.E.Engine.seen c.args.engine)) begun c.clients-clients.ensures.sound in
+    let asked = subst (λ (start : EngineView). All (IsAskOf start.standing.kind (g.E.Engine.seen c.args.engine).standing.clients) c.args.asks.now) begun c.requires.asks in
+    all_ready (λ worker. worker.pass) (λ worker. worker.lines) c.in_ok-object.ensures.ok sound c.args.asks.now asked
     c.in-Ok.lists.items (subst (λ (n : ℕ). AreListsOf c.args.asks.now n c.in-Ok.lists.items) c.clients-clients.ensures.count c.in-Ok.ensures.lists) c.hire.new.workers.items c.hire.ensures.passes c.hire.ensures.lists
 
 pub put_together-requires-clause-lines : goal.put_together-requires-clause-lines
@@ -50,5 +55,5 @@ returns-clause-run g c =
     c.work_all.new.workers.items c.work_all.ensures.long c.work_all.ensures.through
     (g.E.Engine.seen c.close.result) c.put_together.new.outcomes (c.put_together.ensures.long ∙ c.requires.places)
     (subst (λ (workers : List (Worker g.row.E.Denot)). AreBroughtTogether (λ worker. worker.lines) c.args.asks.now workers c.put_together.new.outcomes) c.as_slice.ensures.value c.put_together.ensures.together)
-    (subst (λ (start : EngineView). HasEnded g.E.Engine.KIND start (g.E.Engine.seen c.close.result) (map view_of (map (λ worker. worker.pass) c.work_all.new.workers.items))) c.in_ok-object.ensures.ok.of
-    (subst (λ (passes : List PassSeen). HasEnded g.E.Engine.KIND c.in_ok-object.object.start (g.E.Engine.seen c.close.result) (map view_of passes)) c.dismiss.ensures c.close.ensures))
+    (subst (λ (start : EngineView). HasEnded start.standing.kind start (g.E.Engine.seen c.close.result) (map view_of (map (λ worker. worker.pass) c.work_all.new.workers.items))) c.in_ok-object.ensures.ok.of
+    (subst (λ (passes : List PassSeen). HasEnded c.in_ok-object.object.start.standing.kind c.in_ok-object.object.start (g.E.Engine.seen c.close.result) (map view_of passes)) c.dismiss.ensures c.close.ensures))

@@ -20,8 +20,8 @@ loop-place-preserved g c =
     let asks : List Ask = c.loop-place.worker.lines.asks.items in
     let ask : Ask = c.index.result.now in
     let is : ask ≡ get_or asks c.loop-place.place ask = c.index.ensures in
-    let line : IsLineOf g.E.Engine.KIND c.args.object.now c.args.worker.now.pass (get_or c.args.worker.now.lines.asks.items c.loop-place.place ask) = c.requires.asks_are c.loop-place.place ask (omega (arith, c.loop-place-test.true, ap length i.0)) in
-    let few = (subst (λ (all : List Ask). IsLineOf g.E.Engine.KIND c.args.object.now c.args.worker.now.pass (get_or all c.loop-place.place ask)) (sym i.0) line).asked.few in (
+    let line : IsLineOf c.args.object.now.start.standing.kind c.args.object.now c.args.worker.now.pass (get_or c.args.worker.now.lines.asks.items c.loop-place.place ask) = c.requires.asks_are c.loop-place.place ask (omega (arith, c.loop-place-test.true, ap length i.0)) in
+    let few = (subst (λ (all : List Ask). IsLineOf c.args.object.now.start.standing.kind c.args.object.now c.args.worker.now.pass (get_or all c.loop-place.place ask)) (sym i.0) line).asked.few in (
       i.0,
       c.next_outcome-outcome.ensures.of.0,
       c.next_outcome-outcome.ensures.of.1 ∙ i.2,

@@ -11,7 +11,7 @@ store_row-requires-clause-place g c = (c.requires.place, c.requires.filling.is.a
 
 pub returns-clause-filled : goal.returns-clause-filled
 returns-clause-filled g c = λ start engine own at.
-    after_store g.E.Engine.seen g.E.Engine.KIND _ _ at c.store_row.ensures.seen
+    after_store g.E.Engine.seen (g.E.Engine.seen c.args.board.now.key.value).standing.kind _ _ at c.store_row.ensures.seen
 
 pub returns-clause-same : goal.returns-clause-same
 returns-clause-same g c = (

@@ -34,24 +34,24 @@ pub finish-kept-requires-clause-clients : goal.finish-kept-requires-clause-clien
 finish-kept-requires-clause-clients g c =
     let s = c.scan-asks.ensures.scanned (the_view c.args.seat.now.me) (engine_now g.E.Engine.seen c.args.seat.now.me) c.requires.scan in
     let after = s.later (omega (arith, c.requires.client.1)) in
-    let h : HasCalled g.E.Engine.seen g.E.Engine.KIND (the_view c.args.seat.now.me) (engine_now g.E.Engine.seen c.args.seat.now.me) c.args.clients c.scan-asks.result.items s.looked c.scan-asks.new.seat.me c.make_round.new.seat.me = record { after = after; all = c.requires.clients.0; views = c.make_round.ensures.views; holds = c.make_round.ensures.holds; sound = c.make_round.ensures.sound } in
-    let rest = rest_is g.E.Engine.seen g.E.Engine.KIND h in
+    let h : HasCalled g.E.Engine.seen (g.E.Engine.seen c.args.board.now.key.value).standing.kind (the_view c.args.seat.now.me) (engine_now g.E.Engine.seen c.args.seat.now.me) c.args.clients c.scan-asks.result.items s.looked c.scan-asks.new.seat.me c.make_round.new.seat.me = record { after = after; all = c.requires.clients.0; views = c.make_round.ensures.views; holds = c.make_round.ensures.holds; sound = c.make_round.ensures.sound } in
+    let rest = rest_is g.E.Engine.seen (g.E.Engine.seen c.args.board.now.key.value).standing.kind h in
     (c.requires.clients.0 ∙ sym (ap (λ (u : PassView). u.clients) rest), c.requires.clients.1)
 
 pub finish-kept-requires-clause-client : goal.finish-kept-requires-clause-client
 finish-kept-requires-clause-client g c =
     let s = c.scan-asks.ensures.scanned (the_view c.args.seat.now.me) (engine_now g.E.Engine.seen c.args.seat.now.me) c.requires.scan in
     let after = s.later (omega (arith, c.requires.client.1)) in
-    let h : HasCalled g.E.Engine.seen g.E.Engine.KIND (the_view c.args.seat.now.me) (engine_now g.E.Engine.seen c.args.seat.now.me) c.args.clients c.scan-asks.result.items s.looked c.scan-asks.new.seat.me c.make_round.new.seat.me = record { after = after; all = c.requires.clients.0; views = c.make_round.ensures.views; holds = c.make_round.ensures.holds; sound = c.make_round.ensures.sound } in
-    let rest = rest_is g.E.Engine.seen g.E.Engine.KIND h in
+    let h : HasCalled g.E.Engine.seen (g.E.Engine.seen c.args.board.now.key.value).standing.kind (the_view c.args.seat.now.me) (engine_now g.E.Engine.seen c.args.seat.now.me) c.args.clients c.scan-asks.result.items s.looked c.scan-asks.new.seat.me c.make_round.new.seat.me = record { after = after; all = c.requires.clients.0; views = c.make_round.ensures.views; holds = c.make_round.ensures.holds; sound = c.make_round.ensures.sound } in
+    let rest = rest_is g.E.Engine.seen (g.E.Engine.seen c.args.board.now.key.value).standing.kind h in
     (c.requires.client.0 ∙ sym (ap (λ (u : PassView). u.client) rest), c.requires.client.1)
 
 pub finish-kept-requires-clause-row : goal.finish-kept-requires-clause-row
 finish-kept-requires-clause-row g c =
     let s = c.scan-asks.ensures.scanned (the_view c.args.seat.now.me) (engine_now g.E.Engine.seen c.args.seat.now.me) c.requires.scan in
     let after = s.later (omega (arith, c.requires.client.1)) in
-    let h : HasCalled g.E.Engine.seen g.E.Engine.KIND (the_view c.args.seat.now.me) (engine_now g.E.Engine.seen c.args.seat.now.me) c.args.clients c.scan-asks.result.items s.looked c.scan-asks.new.seat.me c.make_round.new.seat.me = record { after = after; all = c.requires.clients.0; views = c.make_round.ensures.views; holds = c.make_round.ensures.holds; sound = c.make_round.ensures.sound } in
-    let rest = rest_is g.E.Engine.seen g.E.Engine.KIND h in
+    let h : HasCalled g.E.Engine.seen (g.E.Engine.seen c.args.board.now.key.value).standing.kind (the_view c.args.seat.now.me) (engine_now g.E.Engine.seen c.args.seat.now.me) c.args.clients c.scan-asks.result.items s.looked c.scan-asks.new.seat.me c.make_round.new.seat.me = record { after = after; all = c.requires.clients.0; views = c.make_round.ensures.views; holds = c.make_round.ensures.holds; sound = c.make_round.ensures.sound } in
+    let rest = rest_is g.E.Engine.seen (g.E.Engine.seen c.args.board.now.key.value).standing.kind h in
     let front : (the_view c.args.seat.now.me).body.front ≡ (the_view c.make_round.new.seat.me).body.front = sym (ap (λ (u : PassView). u.body.front) rest) in
     c.next_row.ensures ∙ ap (λ (n : ℕ). suc n % 2) (halves c.args.turn (the_view c.args.seat.now.me).body.front c.requires.turn ∙ front)
 
@@ -59,82 +59,82 @@ pub finish-kept-requires-clause-turn : goal.finish-kept-requires-clause-turn
 finish-kept-requires-clause-turn g c =
     let s = c.scan-asks.ensures.scanned (the_view c.args.seat.now.me) (engine_now g.E.Engine.seen c.args.seat.now.me) c.requires.scan in
     let after = s.later (omega (arith, c.requires.client.1)) in
-    let h : HasCalled g.E.Engine.seen g.E.Engine.KIND (the_view c.args.seat.now.me) (engine_now g.E.Engine.seen c.args.seat.now.me) c.args.clients c.scan-asks.result.items s.looked c.scan-asks.new.seat.me c.make_round.new.seat.me = record { after = after; all = c.requires.clients.0; views = c.make_round.ensures.views; holds = c.make_round.ensures.holds; sound = c.make_round.ensures.sound } in
-    let rest = rest_is g.E.Engine.seen g.E.Engine.KIND h in
+    let h : HasCalled g.E.Engine.seen (g.E.Engine.seen c.args.board.now.key.value).standing.kind (the_view c.args.seat.now.me) (engine_now g.E.Engine.seen c.args.seat.now.me) c.args.clients c.scan-asks.result.items s.looked c.scan-asks.new.seat.me c.make_round.new.seat.me = record { after = after; all = c.requires.clients.0; views = c.make_round.ensures.views; holds = c.make_round.ensures.holds; sound = c.make_round.ensures.sound } in
+    let rest = rest_is g.E.Engine.seen (g.E.Engine.seen c.args.board.now.key.value).standing.kind h in
     omega (arith, c.requires.turn, ap (λ (u : PassView). u.body.front) rest)
 
 pub finish-kept-requires-clause-filling : goal.finish-kept-requires-clause-filling
 finish-kept-requires-clause-filling g c =
     let s = c.scan-asks.ensures.scanned (the_view c.args.seat.now.me) (engine_now g.E.Engine.seen c.args.seat.now.me) c.requires.scan in
     let after = s.later (omega (arith, c.requires.client.1)) in
-    let h : HasCalled g.E.Engine.seen g.E.Engine.KIND (the_view c.args.seat.now.me) (engine_now g.E.Engine.seen c.args.seat.now.me) c.args.clients c.scan-asks.result.items s.looked c.scan-asks.new.seat.me c.make_round.new.seat.me = record { after = after; all = c.requires.clients.0; views = c.make_round.ensures.views; holds = c.make_round.ensures.holds; sound = c.make_round.ensures.sound } in
-    record { start = the_view c.make_round.new.seat.me; engine = engine_now g.E.Engine.seen c.make_round.new.seat.me; own = _; is = made_filling g.E.Engine.seen g.E.Engine.KIND h c.in-Ok.ensures.ok }
+    let h : HasCalled g.E.Engine.seen (g.E.Engine.seen c.args.board.now.key.value).standing.kind (the_view c.args.seat.now.me) (engine_now g.E.Engine.seen c.args.seat.now.me) c.args.clients c.scan-asks.result.items s.looked c.scan-asks.new.seat.me c.make_round.new.seat.me = record { after = after; all = c.requires.clients.0; views = c.make_round.ensures.views; holds = c.make_round.ensures.holds; sound = c.make_round.ensures.sound } in
+    record { start = the_view c.make_round.new.seat.me; engine = engine_now g.E.Engine.seen c.make_round.new.seat.me; own = _; is = made_filling g.E.Engine.seen (g.E.Engine.seen c.args.board.now.key.value).standing.kind h c.in-Ok.ensures.ok }
 
 pub abandon-requires-clause-at : goal.abandon-requires-clause-at
 abandon-requires-clause-at g c =
     let s = c.scan-asks.ensures.scanned (the_view c.args.seat.now.me) (engine_now g.E.Engine.seen c.args.seat.now.me) c.requires.scan in
     let after = s.later (omega (arith, c.requires.client.1)) in
-    let h : HasCalled g.E.Engine.seen g.E.Engine.KIND (the_view c.args.seat.now.me) (engine_now g.E.Engine.seen c.args.seat.now.me) c.args.clients c.scan-asks.result.items s.looked c.scan-asks.new.seat.me c.make_round.new.seat.me = record { after = after; all = c.requires.clients.0; views = c.make_round.ensures.views; holds = c.make_round.ensures.holds; sound = c.make_round.ensures.sound } in
-    let rest = rest_is g.E.Engine.seen g.E.Engine.KIND h in
+    let h : HasCalled g.E.Engine.seen (g.E.Engine.seen c.args.board.now.key.value).standing.kind (the_view c.args.seat.now.me) (engine_now g.E.Engine.seen c.args.seat.now.me) c.args.clients c.scan-asks.result.items s.looked c.scan-asks.new.seat.me c.make_round.new.seat.me = record { after = after; all = c.requires.clients.0; views = c.make_round.ensures.views; holds = c.make_round.ensures.holds; sound = c.make_round.ensures.sound } in
+    let rest = rest_is g.E.Engine.seen (g.E.Engine.seen c.args.board.now.key.value).standing.kind h in
     subst (IsAt c.args.board.now.table_id c.make_round.new.seat.table_id) (c.requires.clients.0 ∙ sym (ap (λ (u : PassView). u.clients) rest)) (record { same = c.make_round.ensures.table ∙ (c.scan-asks.ensures.table ∙ c.requires.at.same); words = c.requires.at.words })
 
 pub abandon-requires-clause-failed : goal.abandon-requires-clause-failed
 abandon-requires-clause-failed g c =
     let s = c.scan-asks.ensures.scanned (the_view c.args.seat.now.me) (engine_now g.E.Engine.seen c.args.seat.now.me) c.requires.scan in
     let after = s.later (omega (arith, c.requires.client.1)) in
-    let h : HasCalled g.E.Engine.seen g.E.Engine.KIND (the_view c.args.seat.now.me) (engine_now g.E.Engine.seen c.args.seat.now.me) c.args.clients c.scan-asks.result.items s.looked c.scan-asks.new.seat.me c.make_round.new.seat.me = record { after = after; all = c.requires.clients.0; views = c.make_round.ensures.views; holds = c.make_round.ensures.holds; sound = c.make_round.ensures.sound } in
-    made_failed g.E.Engine.seen g.E.Engine.KIND h c.in-Err.fault c.in-Err.ensures.err
+    let h : HasCalled g.E.Engine.seen (g.E.Engine.seen c.args.board.now.key.value).standing.kind (the_view c.args.seat.now.me) (engine_now g.E.Engine.seen c.args.seat.now.me) c.args.clients c.scan-asks.result.items s.looked c.scan-asks.new.seat.me c.make_round.new.seat.me = record { after = after; all = c.requires.clients.0; views = c.make_round.ensures.views; holds = c.make_round.ensures.holds; sound = c.make_round.ensures.sound } in
+    made_failed g.E.Engine.seen (g.E.Engine.seen c.args.board.now.key.value).standing.kind h c.in-Err.fault c.in-Err.ensures.err
 
 pub abandon-requires-clause-turn : goal.abandon-requires-clause-turn
 abandon-requires-clause-turn g c =
     let s = c.scan-asks.ensures.scanned (the_view c.args.seat.now.me) (engine_now g.E.Engine.seen c.args.seat.now.me) c.requires.scan in
     let after = s.later (omega (arith, c.requires.client.1)) in
-    let h : HasCalled g.E.Engine.seen g.E.Engine.KIND (the_view c.args.seat.now.me) (engine_now g.E.Engine.seen c.args.seat.now.me) c.args.clients c.scan-asks.result.items s.looked c.scan-asks.new.seat.me c.make_round.new.seat.me = record { after = after; all = c.requires.clients.0; views = c.make_round.ensures.views; holds = c.make_round.ensures.holds; sound = c.make_round.ensures.sound } in
-    let rest = rest_is g.E.Engine.seen g.E.Engine.KIND h in
+    let h : HasCalled g.E.Engine.seen (g.E.Engine.seen c.args.board.now.key.value).standing.kind (the_view c.args.seat.now.me) (engine_now g.E.Engine.seen c.args.seat.now.me) c.args.clients c.scan-asks.result.items s.looked c.scan-asks.new.seat.me c.make_round.new.seat.me = record { after = after; all = c.requires.clients.0; views = c.make_round.ensures.views; holds = c.make_round.ensures.holds; sound = c.make_round.ensures.sound } in
+    let rest = rest_is g.E.Engine.seen (g.E.Engine.seen c.args.board.now.key.value).standing.kind h in
     omega (arith, c.requires.turn, ap (λ (u : PassView). u.body.front) rest)
 
 pub returns-in-Ok-clause-plain : goal.returns-in-Ok-clause-plain
 returns-in-Ok-clause-plain g c =
     let s = c.scan-asks.ensures.scanned (the_view c.args.seat.now.me) (engine_now g.E.Engine.seen c.args.seat.now.me) c.requires.scan in
     let after = s.later (omega (arith, c.requires.client.1)) in
-    let h : HasCalled g.E.Engine.seen g.E.Engine.KIND (the_view c.args.seat.now.me) (engine_now g.E.Engine.seen c.args.seat.now.me) c.args.clients c.scan-asks.result.items s.looked c.scan-asks.new.seat.me c.make_round.new.seat.me = record { after = after; all = c.requires.clients.0; views = c.make_round.ensures.views; holds = c.make_round.ensures.holds; sound = c.make_round.ensures.sound } in
-    plain_of _ _ (c.finish-kept.ensures.published (the_view c.make_round.new.seat.me) (engine_now g.E.Engine.seen c.make_round.new.seat.me) _ (made_filling g.E.Engine.seen g.E.Engine.KIND h c.in-Ok.ensures.ok)).0
+    let h : HasCalled g.E.Engine.seen (g.E.Engine.seen c.args.board.now.key.value).standing.kind (the_view c.args.seat.now.me) (engine_now g.E.Engine.seen c.args.seat.now.me) c.args.clients c.scan-asks.result.items s.looked c.scan-asks.new.seat.me c.make_round.new.seat.me = record { after = after; all = c.requires.clients.0; views = c.make_round.ensures.views; holds = c.make_round.ensures.holds; sound = c.make_round.ensures.sound } in
+    plain_of _ _ (c.finish-kept.ensures.published (the_view c.make_round.new.seat.me) (engine_now g.E.Engine.seen c.make_round.new.seat.me) _ (made_filling g.E.Engine.seen (g.E.Engine.seen c.args.board.now.key.value).standing.kind h c.in-Ok.ensures.ok)).0
 
 pub returns-in-Ok-clause-held : goal.returns-in-Ok-clause-held
 returns-in-Ok-clause-held g c =
     let s = c.scan-asks.ensures.scanned (the_view c.args.seat.now.me) (engine_now g.E.Engine.seen c.args.seat.now.me) c.requires.scan in
     let after = s.later (omega (arith, c.requires.client.1)) in
-    let h : HasCalled g.E.Engine.seen g.E.Engine.KIND (the_view c.args.seat.now.me) (engine_now g.E.Engine.seen c.args.seat.now.me) c.args.clients c.scan-asks.result.items s.looked c.scan-asks.new.seat.me c.make_round.new.seat.me = record { after = after; all = c.requires.clients.0; views = c.make_round.ensures.views; holds = c.make_round.ensures.holds; sound = c.make_round.ensures.sound } in
-    let rest = rest_is g.E.Engine.seen g.E.Engine.KIND h in
-    let p = c.finish-kept.ensures.published (the_view c.make_round.new.seat.me) (engine_now g.E.Engine.seen c.make_round.new.seat.me) _ (made_filling g.E.Engine.seen g.E.Engine.KIND h c.in-Ok.ensures.ok) in
+    let h : HasCalled g.E.Engine.seen (g.E.Engine.seen c.args.board.now.key.value).standing.kind (the_view c.args.seat.now.me) (engine_now g.E.Engine.seen c.args.seat.now.me) c.args.clients c.scan-asks.result.items s.looked c.scan-asks.new.seat.me c.make_round.new.seat.me = record { after = after; all = c.requires.clients.0; views = c.make_round.ensures.views; holds = c.make_round.ensures.holds; sound = c.make_round.ensures.sound } in
+    let rest = rest_is g.E.Engine.seen (g.E.Engine.seen c.args.board.now.key.value).standing.kind h in
+    let p = c.finish-kept.ensures.published (the_view c.make_round.new.seat.me) (engine_now g.E.Engine.seen c.make_round.new.seat.me) _ (made_filling g.E.Engine.seen (g.E.Engine.seen c.args.board.now.key.value).standing.kind h c.in-Ok.ensures.ok) in
     let view = ap (λ (m : Seated g.row.E.Denot). the_view m) p.0 in
     let kept = p.1 ∙ ap (newest_of (engine_now g.E.Engine.seen c.make_round.new.seat.me).standing) (c.requires.client.0 ∙ sym (ap (λ (u : PassView). u.client) rest)) in
-    let number = made_number g.E.Engine.seen g.E.Engine.KIND h (omega (arith, c.requires.client.1)) c.in-Ok.ensures.ok in
+    let number = made_number g.E.Engine.seen (g.E.Engine.seen c.args.board.now.key.value).standing.kind h (omega (arith, c.requires.client.1)) c.in-Ok.ensures.ok in
     done_by (the_view c.make_round.new.seat.me) (the_view c.args.seat.now.me) (the_view c.finish-kept.new.seat.me) (engine_now g.E.Engine.seen c.make_round.new.seat.me) _ c.finish-kept.result (ap (λ (u : PassView). u.body) rest) (ap (λ (u : PassView). u.met) rest) (ap (λ (u : PassView). u.notes) rest) view kept (ap (λ (k : Kept). k.number) kept ∙ number)
-    (made_serves g.E.Engine.seen g.E.Engine.KIND h s.has_looked (the_view c.finish-kept.new.seat.me) view (published_ask (the_view c.make_round.new.seat.me) (the_view c.finish-kept.new.seat.me) (engine_now g.E.Engine.seen c.make_round.new.seat.me) _ view ∙ ap (λ (u : PassView). u.body.ask) rest) (published_front (the_view c.make_round.new.seat.me) (the_view c.finish-kept.new.seat.me) (engine_now g.E.Engine.seen c.make_round.new.seat.me) _ view))
+    (made_serves g.E.Engine.seen (g.E.Engine.seen c.args.board.now.key.value).standing.kind h s.has_looked (the_view c.finish-kept.new.seat.me) view (published_ask (the_view c.make_round.new.seat.me) (the_view c.finish-kept.new.seat.me) (engine_now g.E.Engine.seen c.make_round.new.seat.me) _ view ∙ ap (λ (u : PassView). u.body.ask) rest) (published_front (the_view c.make_round.new.seat.me) (the_view c.finish-kept.new.seat.me) (engine_now g.E.Engine.seen c.make_round.new.seat.me) _ view))
 
 pub returns-in-Ok-clause-same : goal.returns-in-Ok-clause-same
 returns-in-Ok-clause-same g c =
     let s = c.scan-asks.ensures.scanned (the_view c.args.seat.now.me) (engine_now g.E.Engine.seen c.args.seat.now.me) c.requires.scan in
     let after = s.later (omega (arith, c.requires.client.1)) in
-    let h : HasCalled g.E.Engine.seen g.E.Engine.KIND (the_view c.args.seat.now.me) (engine_now g.E.Engine.seen c.args.seat.now.me) c.args.clients c.scan-asks.result.items s.looked c.scan-asks.new.seat.me c.make_round.new.seat.me = record { after = after; all = c.requires.clients.0; views = c.make_round.ensures.views; holds = c.make_round.ensures.holds; sound = c.make_round.ensures.sound } in
-    let rest = rest_is g.E.Engine.seen g.E.Engine.KIND h in
-    let p = c.finish-kept.ensures.published (the_view c.make_round.new.seat.me) (engine_now g.E.Engine.seen c.make_round.new.seat.me) _ (made_filling g.E.Engine.seen g.E.Engine.KIND h c.in-Ok.ensures.ok) in
+    let h : HasCalled g.E.Engine.seen (g.E.Engine.seen c.args.board.now.key.value).standing.kind (the_view c.args.seat.now.me) (engine_now g.E.Engine.seen c.args.seat.now.me) c.args.clients c.scan-asks.result.items s.looked c.scan-asks.new.seat.me c.make_round.new.seat.me = record { after = after; all = c.requires.clients.0; views = c.make_round.ensures.views; holds = c.make_round.ensures.holds; sound = c.make_round.ensures.sound } in
+    let rest = rest_is g.E.Engine.seen (g.E.Engine.seen c.args.board.now.key.value).standing.kind h in
+    let p = c.finish-kept.ensures.published (the_view c.make_round.new.seat.me) (engine_now g.E.Engine.seen c.make_round.new.seat.me) _ (made_filling g.E.Engine.seen (g.E.Engine.seen c.args.board.now.key.value).standing.kind h c.in-Ok.ensures.ok) in
     same_then (same_blank (the_view c.args.seat.now.me) (the_view c.make_round.new.seat.me) rest) (same_published (the_view c.make_round.new.seat.me) (the_view c.finish-kept.new.seat.me) (engine_now g.E.Engine.seen c.make_round.new.seat.me) _ (ap (λ (m : Seated g.row.E.Denot). the_view m) p.0))
 
 pub returns-in-Err-clause-held : goal.returns-in-Err-clause-held
 returns-in-Err-clause-held g c =
     let s = c.scan-asks.ensures.scanned (the_view c.args.seat.now.me) (engine_now g.E.Engine.seen c.args.seat.now.me) c.requires.scan in
     let after = s.later (omega (arith, c.requires.client.1)) in
-    let h : HasCalled g.E.Engine.seen g.E.Engine.KIND (the_view c.args.seat.now.me) (engine_now g.E.Engine.seen c.args.seat.now.me) c.args.clients c.scan-asks.result.items s.looked c.scan-asks.new.seat.me c.make_round.new.seat.me = record { after = after; all = c.requires.clients.0; views = c.make_round.ensures.views; holds = c.make_round.ensures.holds; sound = c.make_round.ensures.sound } in
-    let rest = rest_is g.E.Engine.seen g.E.Engine.KIND h in
-    let failed = made_failed g.E.Engine.seen g.E.Engine.KIND h c.in-Err.fault c.in-Err.ensures.err in
+    let h : HasCalled g.E.Engine.seen (g.E.Engine.seen c.args.board.now.key.value).standing.kind (the_view c.args.seat.now.me) (engine_now g.E.Engine.seen c.args.seat.now.me) c.args.clients c.scan-asks.result.items s.looked c.scan-asks.new.seat.me c.make_round.new.seat.me = record { after = after; all = c.requires.clients.0; views = c.make_round.ensures.views; holds = c.make_round.ensures.holds; sound = c.make_round.ensures.sound } in
+    let rest = rest_is g.E.Engine.seen (g.E.Engine.seen c.args.board.now.key.value).standing.kind h in
+    let failed = made_failed g.E.Engine.seen (g.E.Engine.seen c.args.board.now.key.value).standing.kind h c.in-Err.fault c.in-Err.ensures.err in
     subst (HasHeld (the_view c.args.seat.now.me) (the_view c.abandon.new.seat.me)) (sym c.abandon.ensures.answer) (fault_held (the_view c.make_round.new.seat.me) (the_view c.args.seat.now.me) (the_view c.abandon.new.seat.me) c.in-Err.fault (ap (λ (u : PassView). u.body) rest) (ap (λ (u : PassView). u.met) rest) (ap (λ (u : PassView). u.notes) rest) (ap (λ (u : PassView). u.served) rest) failed.rose (ap (λ (m : Seated g.row.E.Denot). the_view m) c.abandon.ensures.given))
 
 pub returns-in-Err-clause-same : goal.returns-in-Err-clause-same
 returns-in-Err-clause-same g c =
     let s = c.scan-asks.ensures.scanned (the_view c.args.seat.now.me) (engine_now g.E.Engine.seen c.args.seat.now.me) c.requires.scan in
     let after = s.later (omega (arith, c.requires.client.1)) in
-    let h : HasCalled g.E.Engine.seen g.E.Engine.KIND (the_view c.args.seat.now.me) (engine_now g.E.Engine.seen c.args.seat.now.me) c.args.clients c.scan-asks.result.items s.looked c.scan-asks.new.seat.me c.make_round.new.seat.me = record { after = after; all = c.requires.clients.0; views = c.make_round.ensures.views; holds = c.make_round.ensures.holds; sound = c.make_round.ensures.sound } in
-    let rest = rest_is g.E.Engine.seen g.E.Engine.KIND h in
+    let h : HasCalled g.E.Engine.seen (g.E.Engine.seen c.args.board.now.key.value).standing.kind (the_view c.args.seat.now.me) (engine_now g.E.Engine.seen c.args.seat.now.me) c.args.clients c.scan-asks.result.items s.looked c.scan-asks.new.seat.me c.make_round.new.seat.me = record { after = after; all = c.requires.clients.0; views = c.make_round.ensures.views; holds = c.make_round.ensures.holds; sound = c.make_round.ensures.sound } in
+    let rest = rest_is g.E.Engine.seen (g.E.Engine.seen c.args.board.now.key.value).standing.kind h in
     same_then (same_blank (the_view c.args.seat.now.me) (the_view c.make_round.new.seat.me) rest) (same_fault (the_view c.make_round.new.seat.me) (the_view c.abandon.new.seat.me) c.in-Err.fault (ap (λ (m : Seated g.row.E.Denot). the_view m) c.abandon.ensures.given))

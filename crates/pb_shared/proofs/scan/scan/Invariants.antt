@@ -8,4 +8,4 @@ abbrev pub invariant-loop-client : goal.invariant-loop-client
 invariant-loop-client g l =
     (l.seat.table_id ≡ l.initial.seat.table_id)
     × (length l.asks.items ≤ l.client)
-    × ((start : PassView) (engine : EngineView) → IsScanning g.E.Engine.seen g.E.Engine.KIND start engine 0 [] l.initial.seat.me → IsScanning g.E.Engine.seen g.E.Engine.KIND start engine l.client l.asks.items l.seat.me)
+    × ((start : PassView) (engine : EngineView) → IsScanning g.E.Engine.seen (g.E.Engine.seen l.board.key.value).standing.kind start engine 0 [] l.initial.seat.me → IsScanning g.E.Engine.seen (g.E.Engine.seen l.board.key.value).standing.kind start engine l.client l.asks.items l.seat.me)

@@ -18,4 +18,4 @@ returns-clause-tried g c =
     let number = ap (λ (a : Ask). a.number) c.requires.ask in
     let first = ap first_turn c.requires.stage in
     let hit = c.take_turn-met.ensures.taken.hit (c.if-met-turn.false ∙ sym first) in
-    held_tried v (the_view c.take_turn-met.new.seat.me) (the_view c.hold.new.seat.me) c.args.turn c.args.found (g.E.Engine.seen hit.value) (view_taken g.E.Engine.seen g.E.Engine.KIND hit ∙ ap (λ (n : ℕ). taken n (g.E.Engine.seen hit.value) v) c.if-met-turn.false) c.requires.notes (λ e. c.requires.found (e ∙ sym number)) c.requires.free c.requires.front c.hold.result c.hold.ensures.held
+    held_tried v (the_view c.take_turn-met.new.seat.me) (the_view c.hold.new.seat.me) c.args.turn c.args.found (g.E.Engine.seen hit.value) (view_taken g.E.Engine.seen (g.E.Engine.seen c.args.board.now.key.value).standing.kind hit ∙ ap (λ (n : ℕ). taken n (g.E.Engine.seen hit.value) v) c.if-met-turn.false) c.requires.notes (λ e. c.requires.found (e ∙ sym number)) c.requires.free c.requires.front c.hold.result c.hold.ensures.held

@@ -5,12 +5,13 @@ use Rattle.pb_object.specs.declared.request.Ask.{Ask}
 use Rattle.pb_engine.specs.Asks.{MayBeServed, asked_round, state_from}
 use Rattle.pb_engine.specs.Covers.{RoundCovers, FailedRoundCovers}
 use Rattle.pb_engine.specs.Outcomes.{HasMade, HasFailedToMake}
-use Rattle.pb_engine.specs.View.{EngineView}
+use Rattle.pb_engine.specs.View.{EngineView, IsEngine}
 use Rattle.pb_comb.specs.View.{standing_of, comb_view}
 use Rattle.pb_comb.proofs.Finished.{IsWritten, fits_object, round_by, number_fits, done, done_comb, failed, kept_all}
 use Rattle.pb_comb.proofs.Made.{failed_comb}
 use Rattle.pb_comb.proofs.Rounds.{IsRound, store_next}
 use Rattle.pb_comb.proofs.Sound.{engine_of, none_in_doubt}
+use Rattle.pb_engine.proofs.SameKind.{of_kind_before}
 use Rattle.pb_comb.proofs.comb.CombEngine.round.Goals as goal
 use Rattle.pb_pair.specs.Store.{IsNext, IsStored, HasFailedStore}
 use Rattle.pb_pair.specs.Safe.{StoreCovers, FailedStoreCovers}
@@ -96,8 +97,9 @@ returns-in-Ok-clause-sound g c =
     let same : c.as_slice-in-Ok.result.now ≡ asks = c.as_slice-in-Ok.ensures.value ∙ sym c.as_slice.ensures.value in
     let moved : g.O.Object.state c.catch_up.new.object ≡ state_from (g.O.Object.state i.object) asks = c.catch_up.ensures ∙ ap (state_from (g.O.Object.state i.object)) same in
     let ahead_is : (g.O.Object.state c.serve.new.object) ≡ state_from (g.O.Object.state i.object) asks = c.serve.ensures.state ∙ ap (λ (s : State). state_from s asks) (c.self.invariant.ahead_by ∙ (ap (state_from (g.O.Object.state i.object)) none ∙ state_from-none (g.O.Object.state i.object))) in
-    engine_of g.O.Object.KIND c.store.new.self (g.O.Object.state c.catch_up.new.object) (g.O.Object.state c.serve.new.object) c.put_changes.new.self i.asked.items
-    (done_comb g.O.Object.KIND i.pair c.store.new.self (g.O.Object.state i.object) (g.O.Object.state i.ahead) (g.O.Object.state c.catch_up.new.object) (g.O.Object.state c.serve.new.object) c.put_changes.new.self c.put_changes.new.self i.asked.items asks none is stored refl moved ahead_is)
+    of_kind_before g.O.Object.KIND c.args.self.now _ (subst (IsEngine g.O.Object.KIND) c.self.view_is (engine_of g.O.Object.KIND i.pair (g.O.Object.state i.object) (g.O.Object.state i.ahead) i.next i.asked.items c.self.invariant))
+    (engine_of g.O.Object.KIND c.store.new.self (g.O.Object.state c.catch_up.new.object) (g.O.Object.state c.serve.new.object) c.put_changes.new.self i.asked.items
+    (done_comb g.O.Object.KIND i.pair c.store.new.self (g.O.Object.state i.object) (g.O.Object.state i.ahead) (g.O.Object.state c.catch_up.new.object) (g.O.Object.state c.serve.new.object) c.put_changes.new.self c.put_changes.new.self i.asked.items asks none is stored refl moved ahead_is))
 
 pub invariant_of-self-in-Err : goal.invariant_of-self-in-Err
 invariant_of-self-in-Err g c =
@@ -151,5 +153,6 @@ returns-in-Err-clause-sound g c =
     let fails = subst (λ (ls : List Line). HasFailedStore 0 ls i.pair c.in-Err.fault c.store.new.self) c.lines.ensures c.in-Err.ensures.err in
     let kept : c.try_extend_from_slice.new.self.items ≡ asks = kept_all c.clear.new.self.items c.as_slice-in-Err.result.now c.args.asks.now.items asks c.try_extend_from_slice.new.self.items c.try_extend_from_slice.result c.clear.ensures c.as_slice-in-Err.ensures.value c.as_slice.ensures.value c.as_slice-in-Err.ensures.fits c.try_extend_from_slice.ensures.variant c.try_extend_from_slice.ensures.ok in
     let ahead_is : (g.O.Object.state c.serve.new.object) ≡ state_from (g.O.Object.state i.object) asks = c.serve.ensures.state ∙ ap (λ (s : State). state_from s asks) (c.self.invariant.ahead_by ∙ (ap (state_from (g.O.Object.state i.object)) none ∙ state_from-none (g.O.Object.state i.object))) in
-    engine_of g.O.Object.KIND c.store.new.self (g.O.Object.state i.object) (g.O.Object.state c.serve.new.object) c.put_changes.new.self c.try_extend_from_slice.new.self.items
-    (failed_comb g.O.Object.KIND i.pair c.store.new.self (g.O.Object.state i.object) (g.O.Object.state c.serve.new.object) asks c.try_extend_from_slice.new.self.items c.put_changes.new.self c.put_changes.new.self c.in-Err.fault is fails refl kept ahead_is)
+    of_kind_before g.O.Object.KIND c.args.self.now _ (subst (IsEngine g.O.Object.KIND) c.self.view_is (engine_of g.O.Object.KIND i.pair (g.O.Object.state i.object) (g.O.Object.state i.ahead) i.next i.asked.items c.self.invariant))
+    (engine_of g.O.Object.KIND c.store.new.self (g.O.Object.state i.object) (g.O.Object.state c.serve.new.object) c.put_changes.new.self c.try_extend_from_slice.new.self.items
+    (failed_comb g.O.Object.KIND i.pair c.store.new.self (g.O.Object.state i.object) (g.O.Object.state c.serve.new.object) asks c.try_extend_from_slice.new.self.items c.put_changes.new.self c.put_changes.new.self c.in-Err.fault is fails refl kept ahead_is))

@@ -1,13 +1,15 @@
 -- The round is prepared, stored, and then known for sure.
 use Rattle.std.proofs.Common.{List, sym, ap, subst, ◌∙◌}
 use Rattle.pb_pmem.specs.declared.line.Line.{Line}
+use Rattle.pb_object.specs.declared.kind.Kind.TheVariants.{Queue}
 use Rattle.pb_object.specs.Queue.{tail_of}
 use Rattle.pb_pair.specs.Store.{IsNext}
-use Rattle.pb_engine.specs.View.{EngineView}
+use Rattle.pb_engine.specs.View.{EngineView, IsEngine}
 use Rattle.pb_queue.specs.Rounds.{added, HasStoredRound, HasFailedRound}
 use Rattle.pb_queue.specs.View.{twin_view}
 use Rattle.pb_queue.proofs.Finished.{HasBegun, next_of, IsFinished, finished, IsGivenUp, given_up}
-use Rattle.pb_queue.proofs.Sound.{none_in_doubt, nothing_ahead}
+use Rattle.pb_queue.proofs.Sound.{engine_of, none_in_doubt, nothing_ahead}
+use Rattle.pb_engine.proofs.SameKind.{of_kind_before}
 use Rattle.pb_queue.proofs.twin.TwinQueueEngine.round.Goals as goal
 
 pub prepare-requires-clause-none : goal.prepare-requires-clause-none
@@ -105,7 +107,8 @@ returns-in-Ok-clause-sound g c =
     let stored = subst (λ (ls : List Line). HasStoredRound (tail_of c.prepare.new.items.sure) (added c.prepare.new.items) c.side_of-side.result ls i.pair c.store_round.new.pair) c.lines.ensures c.in-Ok.ensures.ok in
     let is : IsFinished c.args.self.now (twin_view c.store_round.new.pair c.confirm.new.self i.asked.items) c.store_round.new.pair c.confirm.new.self c.args.asks.now.items i.asked.items c.prepare.new.next =
     finished i.pair c.store_round.new.pair i.items c.prepare.new.items c.confirm.new.self i.asked.items c.as_slice-in_order.result.now c.args.asks.now.items i.next c.prepare.new.next c.args.self.now c.side_of-side.result begun stored c.confirm.ensures in
-    is.sound
+    of_kind_before Queue c.args.self.now _ (subst (IsEngine Queue) c.self.view_is (engine_of i.pair i.items i.next i.asked.items c.self.invariant))
+    (is.sound)
 
 pub invariant_of-self-in-Err : goal.invariant_of-self-in-Err
 invariant_of-self-in-Err g c =
@@ -181,4 +184,5 @@ returns-in-Err-clause-sound g c =
     let fails = subst (λ (ls : List Line). HasFailedRound (tail_of c.prepare.new.items.sure) (added c.prepare.new.items) c.side_of-side.result ls i.pair c.in-Err.fault c.store_round.new.pair) c.lines.ensures c.in-Err.ensures.err in
     let is : IsGivenUp c.in-Err.fault c.args.self.now (twin_view c.store_round.new.pair c.prepare.new.items c.keep.new.asked.items) c.store_round.new.pair c.prepare.new.items c.args.asks.now.items c.keep.new.asked.items c.prepare.new.next =
     given_up i.pair c.store_round.new.pair c.in-Err.fault i.items c.prepare.new.items i.asked.items c.keep.new.asked.items c.as_slice-in_order.result.now c.args.asks.now.items i.next c.prepare.new.next c.args.self.now c.side_of-side.result begun fails c.keep.ensures in
-    is.sound
+    of_kind_before Queue c.args.self.now _ (subst (IsEngine Queue) c.self.view_is (engine_of i.pair i.items i.next i.asked.items c.self.invariant))
+    (is.sound)

@@ -11,6 +11,7 @@ use Rattle.pb_queue.specs.View.{twin_view, IsTwin}
 use Rattle.pb_queue.proofs.Finished.{HasBeenSettled, settled_both, same_answer}
 use Rattle.pb_queue.proofs.Settling.{IsUnsettled, unsettled_twin, failed_to_settle, unsettled_safely}
 use Rattle.pb_queue.proofs.Sound.{engine_of}
+use Rattle.pb_engine.proofs.SameKind.{of_kind_before}
 use Rattle.pb_queue.proofs.twin.TwinQueueEngine.settle.Goals as goal
 
 pub invariant_of-self : goal.invariant_of-self
@@ -36,7 +37,8 @@ returns-in_err-recorded-clause-fails_safe g c =
 pub returns-in_err-recorded-clause-sound : goal.returns-in_err-recorded-clause-sound
 returns-in_err-recorded-clause-sound g c =
     let i = c.self.inside in
-    engine_of c.settle.new.self i.items i.next i.asked.items (unsettled_twin i.pair c.settle.new.self i.items i.next i.asked.items c.in_err-recorded.field-0.0 c.self.invariant c.in_err-recorded.ensures.err)
+    of_kind_before Queue c.args.self.now _ (subst (IsEngine Queue) c.self.view_is (engine_of i.pair i.items i.next i.asked.items c.self.invariant))
+    (engine_of c.settle.new.self i.items i.next i.asked.items (unsettled_twin i.pair c.settle.new.self i.items i.next i.asked.items c.in_err-recorded.field-0.0 c.self.invariant c.in_err-recorded.ensures.err))
 
 pub invariant_of-self-2 : goal.invariant_of-self-2
 invariant_of-self-2 g c =
@@ -68,4 +70,5 @@ returns-clause-sound g c =
     let unsettled : IsUnsettled i.pair i.items i.next i.asked.items = record { is = c.self.invariant; unsure = ap (λ (e : EngineView). e.sure) c.self.view_is ∙ c.requires } in
     let is : HasBeenSettled i.pair c.settle.new.self i.items c.follow.new.items i.next i.asked.items =
     settled_both i.pair c.settle.new.self i.items c.follow.new.items i.next i.asked.items c.in_ok-recorded.recorded (same_answer c.in_ok-recorded.recorded (was_called i.pair.doubt) c.in_ok-recorded.ensures.answer) unsettled c.in_ok-recorded.ensures.ok c.in_ok-recorded.ensures.safe c.follow.ensures in
-    subst (λ (a : List Ask). IsEngine Queue (twin_view c.settle.new.self c.follow.new.items a)) (sym c.clear.ensures) (engine_of c.settle.new.self c.follow.new.items i.next [] is.twin)
+    of_kind_before Queue c.args.self.now _ (subst (IsEngine Queue) c.self.view_is (engine_of i.pair i.items i.next i.asked.items c.self.invariant))
+    (subst (λ (a : List Ask). IsEngine Queue (twin_view c.settle.new.self c.follow.new.items a)) (sym c.clear.ensures) (engine_of c.settle.new.self c.follow.new.items i.next [] is.twin))
