@@ -1,7 +1,8 @@
 //! Running a script that is made from a seed, and summing up what came of it.
-ghost use Rattle.std.specs.Prelude.{◌≡◌, ◌⊎◌, ◌<◌, ◌≤◌, ◌^◌, true, All, length};
+ghost use Rattle.std.specs.Prelude.{◌≡◌, ◌≢◌, ◌⊎◌, ◌<◌, ◌≤◌, ◌^◌, true, All, length};
 ghost use Rattle.pb_object.specs.declared.kind.Kind.TheVariants.{Map};
 ghost use Rattle.pb_object.specs.Object.{Registers};
+ghost use Rattle.pb_engines.specs.AnyEngine.{view_of};
 ghost use Rattle.pb_script.specs.declared.script.TheConstants.{MOST_REQUESTS};
 ghost use Rattle.pb_script.specs.Command.{IsDrillWithin};
 ghost use Rattle.pb_script.specs.Script.{IsAskOf};
@@ -18,10 +19,12 @@ use crate::program::Done;
 use crate::reports::refuse;
 use crate::requests::{Requests, drill_requests, serve};
 use crate::stop::Stop;
-use pb_comb::Comb;
+use pb_engine::Engine;
+use pb_engines::AnyEngine;
 use pb_io::Sink;
+use pb_layout::Header;
 use pb_map::RegMap;
-use pb_object::Object;
+use pb_object::{Kind, Object};
 use pb_pmem::Pmem;
 use pb_script::DRILL_SIZE;
 use pb_shared::Gate;
@@ -74,8 +77,13 @@ fn drill_new<R: Wait + Threads + Sync, K: Sink, P: Pmem + Send, G: Gate>(
     ensures { let out = stream (K.bytes sink.old) (K.bytes sink.new) (K.fault_count sink.old) (K.fault_count sink.new) in
         DrillsNew (drill_head clients) (P.seen device) (P.seen result.device) requests.asks.items out result.status }
 {
-    match Comb::<RegMap, P>::fresh(alloc, device, clients, DRILL_SIZE) {
-        Ok(comb) => drill_on(rt, alloc, comb, requests, sink, gate),
+    let head = Header {
+        kind: Kind::Map,
+        clients,
+        size: DRILL_SIZE,
+    };
+    match AnyEngine::fresh(alloc, &head, device) {
+        Ok(engine) => drill_on(rt, alloc, engine, requests, sink, gate),
         Err(refused) => refuse(sink, refused),
     }
 }
@@ -84,34 +92,57 @@ fn drill_new<R: Wait + Threads + Sync, K: Sink, P: Pmem + Send, G: Gate>(
 fn drill_on<R: Wait + Threads + Sync, K: Sink, P: Pmem + Send, G: Gate>(
     rt: &R,
     alloc: Global,
-    comb: Comb<RegMap, P>,
+    engine: AnyEngine<P>,
     requests: Requests,
     sink: &mut K,
     gate: &G,
 ) -> Done<P>
-    requires sure { comb.sure ≡ true }
-    requires few_clients { comb.standing.clients ≤ 16 }
-    requires unwritten { version_sum comb.standing.state ≡ 0 }
-    requires asks { All (IsAskOf Map comb.standing.clients) requests.asks.items }
+    requires sure { (view_of engine).sure ≡ true }
+    requires few_clients { (view_of engine).standing.clients ≤ 16 }
+    requires unwritten { version_sum (view_of engine).standing.state ≡ 0 }
+    requires asks { All (IsAskOf (view_of engine).standing.kind (view_of engine).standing.clients) requests.asks.items }
     requires few { length requests.asks.items ≤ MOST_REQUESTS }
     ensures { let out = stream (K.bytes sink.old) (K.bytes sink.new) (K.fault_count sink.old) (K.fault_count sink.new) in
-        DrillsOn comb (P.seen result.device) requests.asks.items out result.status
-        ⊎ ((P.seen result.device ≡ comb.device) × IsSaid out (stop_text Memory) (stop_status Memory) result.status) }
+        DrillsOn (view_of engine) (P.seen result.device) requests.asks.items out result.status
+        ⊎ ((P.seen result.device ≡ (view_of engine).device) × IsSaid out (stop_text Memory) (stop_status Memory) result.status) }
 {
-    match serve(rt, alloc, comb, requests, gate) {
-        Ok((comb, served)) => {
-            let versions = version_sum(comb.object());
+    match serve(rt, alloc, engine, requests, gate) {
+        Ok((engine, served)) => {
+            let versions = versions_of(&engine);
             let status = print_summary(sink, &served, versions);
             Done {
                 status,
-                device: comb.close(),
+                device: engine.close(),
             }
         }
-        Err(comb) => Done {
+        Err(engine) => Done {
             status: print_stop(sink, &Stop::Memory),
-            device: comb.close(),
+            device: engine.close(),
         },
     }
+}
+
+/// The sum of the versions of an engine's registers. What isn't a map has none.
+fn versions_of<P: Pmem>(engine: &AnyEngine<P>) -> u64
+    requires { version_sum (view_of engine.now).standing.state < 2 ^ 64 }
+    ensures { result ≡ version_sum (view_of engine.now).standing.state }
+{
+    match engine {
+        AnyEngine::Map(comb) => version_sum(comb.object()),
+        AnyEngine::Stack(comb) => no_versions(comb.kind(), comb),
+        AnyEngine::Heap(comb) => no_versions(comb.kind(), comb),
+        AnyEngine::Queue(queue) => no_versions(queue.kind(), queue),
+    }
+}
+
+/// The versions of an engine whose object isn't a map.
+fn no_versions<E: Engine>(kind: Kind, engine: &E) -> u64
+    requires kind { kind ≡ (E.seen engine.now).standing.kind }
+    requires other { kind ≢ Map }
+    ensures { result ≡ version_sum (E.seen engine.now).standing.state }
+{
+    let _ = engine.clients();
+    0
 }
 
 /// The sum of the versions of a map's registers.

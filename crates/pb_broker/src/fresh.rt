@@ -1,6 +1,5 @@
 //! Making a region, and running a script on it.
 ghost use Rattle.std.specs.Prelude.{◌≡◌, All, IfOk, IfErr, MatchResult};
-ghost use Rattle.pb_object.specs.declared.kind.Kind.TheVariants.{Queue};
 ghost use Rattle.pb_script.specs.Script.{IsAskOf};
 ghost use Rattle.pb_broker.specs.Call.{Call};
 ghost use Rattle.pb_broker.specs.Comes.{IsScriptOf, ServesFresh, StopsFresh};
@@ -12,16 +11,11 @@ use crate::command::{Ran, refused};
 use crate::requests::{Requests, read_requests, serve};
 use crate::source::read_all;
 use crate::stop::Stop;
-use pb_comb::Comb;
-use pb_heap::MinHeap;
+use pb_engines::AnyEngine;
 use pb_io::Source;
 use pb_layout::Header;
-use pb_map::RegMap;
-use pb_object::{Kind, Object};
 use pb_pmem::Pmem;
-use pb_queue::TwinQueue;
 use pb_shared::Gate;
-use pb_stack::Stack;
 use std::alloc::Global;
 use std::sync::Wait;
 use std::thread::Threads;
@@ -42,7 +36,9 @@ pub fn fresh<R: Wait + Threads + Sync, S: Source, P: Pmem + Send, G: Gate>(
       before = P.seen device;
       after = P.seen result.device;
     } in
-        MatchResult result.served (λ requests. ServesFresh head.now call requests.asks.items requests.outcomes.items) (StopsFresh head.now call) }
+        MatchResult result.served
+        (λ requests. ServesFresh head.now call requests.asks.items requests.outcomes.items)
+        (StopsFresh head.now call) }
 {
     match prepare(alloc, head, source) {
         Ok(requests) => run_new(rt, alloc, head, requests, device, gate),
@@ -80,70 +76,15 @@ fn run_new<R: Wait + Threads + Sync, P: Pmem + Send, G: Gate>(
         (λ served. ServesNew head.now (P.seen device) (P.seen result.device) served.asks.items served.outcomes.items)
         (IsNotMade head.now (P.seen device) (P.seen result.device)) }
 {
-    match head.kind {
-        Kind::Map => run_comb::<R, RegMap, P, G>(rt, alloc, head, requests, device, gate),
-        Kind::Stack => run_comb::<R, Stack, P, G>(rt, alloc, head, requests, device, gate),
-        Kind::Heap => run_comb::<R, MinHeap, P, G>(rt, alloc, head, requests, device, gate),
-        Kind::Queue => run_queue(rt, alloc, head, requests, device, gate),
-    }
-}
-
-/// The same where the object is combined by one engine.
-fn run_comb<R: Wait + Threads + Sync, O: Object + Send, P: Pmem + Send, G: Gate>(
-    rt: &R,
-    alloc: Global,
-    head: &Header,
-    requests: Requests,
-    device: P,
-    gate: &G,
-) -> Ran<P>
-    requires kind { head.now.kind ≡ O.KIND }
-    requires asks { All (IsAskOf head.now.kind head.now.clients) requests.asks.items }
-    ensures asks { IfOk result.served (λ served. served.asks.items ≡ requests.asks.items) }
-    ensures ran { MatchResult result.served
-        (λ served. ServesNew head.now (P.seen device) (P.seen result.device) served.asks.items served.outcomes.items)
-        (IsNotMade head.now (P.seen device) (P.seen result.device)) }
-{
-    match Comb::<O, P>::fresh(alloc, device, head.clients, head.size) {
-        Ok(comb) => match serve(rt, alloc, comb, requests, gate) {
-            Ok((comb, served)) => Ran {
+    match AnyEngine::fresh(alloc, head, device) {
+        Ok(engine) => match serve(rt, alloc, engine, requests, gate) {
+            Ok((engine, served)) => Ran {
                 served: Ok(served),
-                device: comb.close(),
+                device: engine.close(),
             },
-            Err(comb) => Ran {
+            Err(engine) => Ran {
                 served: Err(Stop::Memory),
-                device: comb.close(),
-            },
-        },
-        Err(why) => refused(why),
-    }
-}
-
-/// The same where the object is a queue.
-fn run_queue<R: Wait + Threads + Sync, P: Pmem + Send, G: Gate>(
-    rt: &R,
-    alloc: Global,
-    head: &Header,
-    requests: Requests,
-    device: P,
-    gate: &G,
-) -> Ran<P>
-    requires kind { head.now.kind ≡ Queue }
-    requires asks { All (IsAskOf head.now.kind head.now.clients) requests.asks.items }
-    ensures asks { IfOk result.served (λ served. served.asks.items ≡ requests.asks.items) }
-    ensures ran { MatchResult result.served
-        (λ served. ServesNew head.now (P.seen device) (P.seen result.device) served.asks.items served.outcomes.items)
-        (IsNotMade head.now (P.seen device) (P.seen result.device)) }
-{
-    match TwinQueue::fresh(alloc, device, head.clients, head.size) {
-        Ok(queue) => match serve(rt, alloc, queue, requests, gate) {
-            Ok((queue, served)) => Ran {
-                served: Ok(served),
-                device: queue.close(),
-            },
-            Err(queue) => Ran {
-                served: Err(Stop::Memory),
-                device: queue.close(),
+                device: engine.close(),
             },
         },
         Err(why) => refused(why),

@@ -12,10 +12,10 @@ use crate::print::{print_stop, status_of};
 use crate::program::Done;
 use crate::status::Status;
 use crate::stop::Stop;
+use pb_engines::AnyEngine;
 use pb_io::Sink;
 use pb_pair::Refused;
 use pb_pmem::Pmem;
-use pb_engines::AnyEngine;
 use pb_region_report::{Unwritten, write_report};
 use std::alloc::Global;
 

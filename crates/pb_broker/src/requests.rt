@@ -81,7 +81,8 @@ pub fn serve<R: Wait + Threads + Sync, E: Engine + Send, G: Gate>(
     requires sure { (E.seen engine).sure ≡ true }
     requires asks { All (IsAskOf (E.seen engine).standing.kind (E.seen engine).standing.clients) requests.asks.items }
     ensures asks { IfOk result (λ served. served.1.asks.items ≡ requests.asks.items) }
-    ensures run { IfOk result (λ served. HasRun (E.seen engine) requests.asks.items (E.seen served.0) served.1.outcomes.items) }
+    ensures run { IfOk result
+        (λ served. HasRun (E.seen engine) requests.asks.items (E.seen served.0) served.1.outcomes.items) }
     ensures err { IfErr result (λ refused. refused ≡ engine) }
 {
     let Requests { asks, mut outcomes } = requests;

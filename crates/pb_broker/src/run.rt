@@ -1,7 +1,5 @@
 //! Opening a region, and running a script on it.
 ghost use Rattle.std.specs.Prelude.{◌≡◌, ◌≤◌, IfOk, IfErr, MatchResult, length, None, false};
-ghost use Rattle.pb_object.specs.declared.kind.Kind.TheVariants.{Queue};
-ghost use Rattle.pb_pair.specs.Open.{IsOpened};
 ghost use Rattle.pb_broker.specs.declared.source.TheConstants.{SOURCE_LIMIT};
 ghost use Rattle.pb_broker.specs.Call.{Call};
 ghost use Rattle.pb_broker.specs.Comes.{ServesRun, StopsReadingFew, StopsRun};
@@ -12,18 +10,12 @@ use crate::command::{Ran, refused};
 use crate::requests::{Requests, read_requests, serve};
 use crate::source::read_all;
 use crate::stop::Stop;
-use pb_comb::Comb;
 use pb_engine::Engine;
-use pb_heap::MinHeap;
+use pb_engines::AnyEngine;
 use pb_io::Source;
-use pb_map::RegMap;
-use pb_object::{Kind, Object};
-use pb_pair::Pair;
 use pb_pmem::Pmem;
-use pb_queue::TwinQueue;
 use pb_script::is_short;
 use pb_shared::Gate;
-use pb_stack::Stack;
 use std::alloc::Global;
 use std::sync::Wait;
 use std::thread::Threads;
@@ -83,82 +75,12 @@ fn run_on<R: Wait + Threads + Sync, P: Pmem + Send, G: Gate>(
         (λ served. ServesOn bytes.now (P.seen device) (P.seen result.device) served.asks.items served.outcomes.items)
         (StopsOn bytes.now (P.seen device) (P.seen result.device)) }
 {
-    match Pair::open(alloc, device) {
-        Ok(pair) => run_opened(rt, alloc, bytes, pair, gate),
-        Err(why) => refused(why),
-    }
-}
-
-/// The same on the region that was opened, whatever its kind.
-fn run_opened<R: Wait + Threads + Sync, P: Pmem + Send, G: Gate>(
-    rt: &R,
-    alloc: Global,
-    bytes: &[u8],
-    pair: Pair<P>,
-    gate: &G,
-) -> Ran<P>
-    requires source { length bytes.now ≤ SOURCE_LIMIT }
-    requires opened { IsOpened pair.device pair }
-    ensures { MatchResult result.served
-        (λ served. ServesOn bytes.now pair.device (P.seen result.device) served.asks.items served.outcomes.items)
-        (StopsOn bytes.now pair.device (P.seen result.device)) }
-{
-    match pair.header().kind {
-        Kind::Map => run_comb::<R, RegMap, P, G>(rt, alloc, bytes, pair, gate),
-        Kind::Stack => run_comb::<R, Stack, P, G>(rt, alloc, bytes, pair, gate),
-        Kind::Heap => run_comb::<R, MinHeap, P, G>(rt, alloc, bytes, pair, gate),
-        Kind::Queue => run_queue(rt, alloc, bytes, pair, gate),
-    }
-}
-
-/// The same where the object is combined by one engine.
-fn run_comb<R: Wait + Threads + Sync, O: Object + Send, P: Pmem + Send, G: Gate>(
-    rt: &R,
-    alloc: Global,
-    bytes: &[u8],
-    pair: Pair<P>,
-    gate: &G,
-) -> Ran<P>
-    requires source { length bytes.now ≤ SOURCE_LIMIT }
-    requires opened { IsOpened pair.device pair }
-    requires kind { pair.head.kind ≡ O.KIND }
-    ensures { MatchResult result.served
-        (λ served. ServesOn bytes.now pair.device (P.seen result.device) served.asks.items served.outcomes.items)
-        (StopsOn bytes.now pair.device (P.seen result.device)) }
-{
-    match Comb::<O, P>::adopt(alloc, pair) {
-        Ok(comb) => {
-            let (comb, served) = run_found(rt, alloc, bytes, comb, gate);
+    match AnyEngine::open(alloc, device) {
+        Ok(engine) => {
+            let (engine, served) = run_found(rt, alloc, bytes, engine, gate);
             Ran {
                 served,
-                device: comb.close(),
-            }
-        }
-        Err(why) => refused(why),
-    }
-}
-
-/// The same where the object is a queue.
-fn run_queue<R: Wait + Threads + Sync, P: Pmem + Send, G: Gate>(
-    rt: &R,
-    alloc: Global,
-    bytes: &[u8],
-    pair: Pair<P>,
-    gate: &G,
-) -> Ran<P>
-    requires source { length bytes.now ≤ SOURCE_LIMIT }
-    requires opened { IsOpened pair.device pair }
-    requires kind { pair.head.kind ≡ Queue }
-    ensures { MatchResult result.served
-        (λ served. ServesOn bytes.now pair.device (P.seen result.device) served.asks.items served.outcomes.items)
-        (StopsOn bytes.now pair.device (P.seen result.device)) }
-{
-    match TwinQueue::adopt(alloc, pair) {
-        Ok(queue) => {
-            let (queue, served) = run_found(rt, alloc, bytes, queue, gate);
-            Ran {
-                served,
-                device: queue.close(),
+                device: engine.close(),
             }
         }
         Err(why) => refused(why),
@@ -176,8 +98,8 @@ fn run_found<R: Wait + Threads + Sync, E: Engine + Send, G: Gate>(
     requires source { length bytes.now ≤ SOURCE_LIMIT }
     requires unsure { (E.seen engine).sure ≡ false }
     requires decided { (E.seen engine).doubt ≡ None }
-    ensures ok { IfOk result.1
-        (λ served. ServesFound (E.seen engine).standing.kind (E.seen engine) bytes.now (E.seen result.0) served.asks.items served.outcomes.items) }
+    ensures ok { IfOk result.1 (λ served.
+        ServesFound (E.seen engine).standing.kind (E.seen engine) bytes.now (E.seen result.0) served.asks.items served.outcomes.items) }
     ensures err { IfErr result.1 (StopsFound (E.seen engine).standing.kind (E.seen engine) bytes.now (E.seen result.0)) }
 {
     let requests = match read_requests(alloc, bytes, engine.kind(), engine.clients()) {

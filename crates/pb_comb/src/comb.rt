@@ -185,7 +185,10 @@ impl<O: Object, P: Pmem> Engine for Comb<O, P> {
 
     ghost seen = { λ comb. comb };
 
-    fn kind(&self) -> Kind {
+    fn kind(&self) -> Kind
+        ensures standing { result ≡ self.now.standing.kind }
+        ensures object { result ≡ O.KIND }
+    {
         self.pair.header().kind
     }
 

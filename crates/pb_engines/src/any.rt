@@ -1,9 +1,10 @@
+use arrayvec::ArrayVec;
 use pb_comb::Comb;
 use pb_engine::Engine;
 use pb_heap::MinHeap;
 use pb_layout::Header;
 use pb_map::RegMap;
-use pb_object::Kind;
+use pb_object::{Ask, Kept, Kind};
 use pb_pair::{Pair, Refused};
 use pb_pmem::{DeviceFault, Pmem};
 use pb_queue::TwinQueue;
@@ -22,13 +23,10 @@ pub enum AnyEngine<P: Pmem> {
 }
 
 impl<P: Pmem> AnyEngine<P> {
-    ghost use Rattle.std.specs.Prelude.{◌≡◌, IfOk, IfErr, OnOk, OnErr, Ok, false};
+    ghost use Rattle.std.specs.Prelude.{◌≡◌, IfOk, IfErr};
     ghost use Rattle.pb_layout.specs.Represents.{header_for};
     ghost use Rattle.pb_pair.specs.Open.{IsOpened};
-    ghost use Rattle.pb_engine.specs.Covers.{SettleCovers, FailedSettleCovers};
     ghost use Rattle.pb_engine.specs.Opening.{IsFreshEngine, IsFreshRefusal, IsAdopted, IsAdoptRefusal};
-    ghost use Rattle.pb_engine.specs.Outcomes.{HasSettled, HasFailedToSettle};
-    ghost use Rattle.pb_engine.specs.View.{IsEngine, was_called};
     ghost use Rattle.pb_engines.specs.AnyEngine.{view_of};
     ghost use Rattle.pb_engines.specs.Unopened.{IsUnopened};
 
@@ -106,27 +104,6 @@ impl<P: Pmem> AnyEngine<P> {
         }
     }
 
-    /// Settles what an opening found or a failed round left. The engine is sure.
-    ///
-    /// The answer says whether the round in doubt is recorded: it is so exactly where its index word was called. After an error the same
-    /// is in doubt as before, and settling may be tried again.
-    pub fn settle(&mut self) -> Result<bool, DeviceFault>
-        requires { (view_of self.old).sure ≡ false }
-        ensures ok { OnOk result (HasSettled (view_of self.old) (view_of self.new)) }
-        ensures answer { OnOk result (result ≡ Ok (was_called (view_of self.old).doubt)) }
-        ensures err { IfErr result (λ fault. HasFailedToSettle fault (view_of self.old) (view_of self.new)) }
-        ensures safe { OnOk result (SettleCovers (view_of self.old) (view_of self.new)) }
-        ensures fails_safe { OnErr result (FailedSettleCovers (view_of self.old) (view_of self.new)) }
-        ensures sound { IsEngine (view_of self.new).standing.kind (view_of self.new) }
-    {
-        match self {
-            AnyEngine::Map(comb) => comb.settle(),
-            AnyEngine::Stack(comb) => comb.settle(),
-            AnyEngine::Heap(comb) => comb.settle(),
-            AnyEngine::Queue(queue) => queue.settle(),
-        }
-    }
-
     /// Hands the device back.
     pub fn close(self) -> P
         ensures { P.seen result ≡ (view_of self).device }
@@ -136,6 +113,84 @@ impl<P: Pmem> AnyEngine<P> {
             AnyEngine::Stack(comb) => comb.close(),
             AnyEngine::Heap(comb) => comb.close(),
             AnyEngine::Queue(queue) => queue.close(),
+        }
+    }
+}
+
+impl<P: Pmem> Engine for AnyEngine<P> {
+    ghost use Rattle.pb_engines.specs.AnyEngine.{view_of};
+
+    ghost seen = { λ engine. view_of engine };
+
+    fn kind(&self) -> Kind {
+        match self {
+            AnyEngine::Map(comb) => comb.kind(),
+            AnyEngine::Stack(comb) => comb.kind(),
+            AnyEngine::Heap(comb) => comb.kind(),
+            AnyEngine::Queue(queue) => queue.kind(),
+        }
+    }
+
+    fn clients(&self) -> u32 {
+        match self {
+            AnyEngine::Map(comb) => comb.clients(),
+            AnyEngine::Stack(comb) => comb.clients(),
+            AnyEngine::Heap(comb) => comb.clients(),
+            AnyEngine::Queue(queue) => queue.clients(),
+        }
+    }
+
+    fn rounds(&self) -> u64 {
+        match self {
+            AnyEngine::Map(comb) => comb.rounds(),
+            AnyEngine::Stack(comb) => comb.rounds(),
+            AnyEngine::Heap(comb) => comb.rounds(),
+            AnyEngine::Queue(queue) => queue.rounds(),
+        }
+    }
+
+    fn sure(&self) -> bool {
+        match self {
+            AnyEngine::Map(comb) => comb.sure(),
+            AnyEngine::Stack(comb) => comb.sure(),
+            AnyEngine::Heap(comb) => comb.sure(),
+            AnyEngine::Queue(queue) => queue.sure(),
+        }
+    }
+
+    fn kept_at(&self, client: u32, place: u32) -> Kept {
+        match self {
+            AnyEngine::Map(comb) => comb.kept_at(client, place),
+            AnyEngine::Stack(comb) => comb.kept_at(client, place),
+            AnyEngine::Heap(comb) => comb.kept_at(client, place),
+            AnyEngine::Queue(queue) => queue.kept_at(client, place),
+        }
+    }
+
+    fn faults(&self) -> u64 {
+        match self {
+            AnyEngine::Map(comb) => comb.faults(),
+            AnyEngine::Stack(comb) => comb.faults(),
+            AnyEngine::Heap(comb) => comb.faults(),
+            AnyEngine::Queue(queue) => queue.faults(),
+        }
+    }
+
+    fn round(&mut self, asks: &ArrayVec<Ask, 16>) -> Result<(), DeviceFault> {
+        match self {
+            AnyEngine::Map(comb) => comb.round(asks),
+            AnyEngine::Stack(comb) => comb.round(asks),
+            AnyEngine::Heap(comb) => comb.round(asks),
+            AnyEngine::Queue(queue) => queue.round(asks),
+        }
+    }
+
+    fn settle(&mut self) -> Result<bool, DeviceFault> {
+        match self {
+            AnyEngine::Map(comb) => comb.settle(),
+            AnyEngine::Stack(comb) => comb.settle(),
+            AnyEngine::Heap(comb) => comb.settle(),
+            AnyEngine::Queue(queue) => queue.settle(),
         }
     }
 }

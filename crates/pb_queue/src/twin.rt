@@ -191,7 +191,10 @@ impl<P: Pmem> Engine for TwinQueue<P> {
 
     ghost seen = { λ queue. queue };
 
-    fn kind(&self) -> Kind {
+    fn kind(&self) -> Kind
+        ensures standing { result ≡ self.now.standing.kind }
+        ensures queue { result ≡ Queue }
+    {
         self.pair.header().kind
     }
 

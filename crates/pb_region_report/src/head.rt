@@ -20,8 +20,9 @@ pub fn comb_head<O: Object, P: Pmem>(comb: &Comb<O, P>) -> Text
     ensures { result.bytes ≡ head_text comb.now.standing }
 {
     let header = comb.header();
+    let kind = comb.kind();
     let clients = comb.clients();
-    head(header.kind, clients, header.size, &comb_rounds(comb))
+    head(kind, clients, header.size, &comb_rounds(comb))
 }
 
 /// The head of the report of a queue.
@@ -30,8 +31,9 @@ pub fn queue_head<P: Pmem>(queue: &TwinQueue<P>) -> Text
     ensures sound { IsEngine Queue queue.now }
 {
     let header = queue.header();
+    let kind = queue.kind();
     let clients = queue.clients();
-    head(header.kind, clients, header.size, &queue_rounds(queue))
+    head(kind, clients, header.size, &queue_rounds(queue))
 }
 
 // The rounds of the one side, after a space.

@@ -1,5 +1,6 @@
 use Rattle.std.proofs.Common.{inl, inr, sym, subst}
 use Rattle.pb_pmem.specs.Device.{Device}
+use Rattle.pb_engines.specs.AnyEngine.{view_of}
 use Rattle.pb_broker.specs.declared.stop.Stop.TheVariants.{Memory}
 use Rattle.pb_broker.specs.Comes.{drill_head}
 use Rattle.pb_broker.specs.Serving.{IsNotMade}
@@ -10,7 +11,7 @@ use Rattle.pb_broker.proofs.drill.drill_new.Goals as goal
 
 pub returns-in-Ok : goal.returns-in-Ok
 returns-in-Ok g c = elim c.drill_on.ensures [
-  | inl drills ↦ inl (c.in-Ok.comb, c.in-Ok.ensures.ok, drills)
+  | inl drills ↦ inl (view_of c.in-Ok.engine, c.in-Ok.ensures.ok, drills)
   | inr memory ↦ inr (Memory, inr (made_alone c.in-Ok.ensures.ok memory.0), memory.1)
 ]
 
