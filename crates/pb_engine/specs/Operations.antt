@@ -7,7 +7,6 @@ use Rattle.pb_object.specs.History.{Round, after_round}
 use Rattle.pb_object.specs.Object.{State, Registers, Items, Rising, Waits}
 use Rattle.pb_object.specs.Standing.{rounds_of}
 use Rattle.pb_layout.specs.declared.header.Header.{Header}
-
 use Rattle.pb_layout.specs.NextRecord.{next_position}
 use Rattle.pb_layout.specs.PutCell.{put_ops}
 use Rattle.pb_layout.specs.RegionOps.{spare_place, commit_ops, stage_over}

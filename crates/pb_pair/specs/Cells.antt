@@ -4,7 +4,6 @@ use Rattle.pb_pmem.specs.declared.log.LogOp.{LogOp}
 use Rattle.pb_pmem.specs.Lines.{word_of}
 use Rattle.pb_pmem.specs.Operations.{Does}
 use Rattle.pb_object.specs.declared.kind.Kind.TheVariants.{Queue}
-
 use Rattle.pb_layout.specs.PutCell.{put_ops}
 use Rattle.pb_layout.specs.Represents.{object_parts}
 use Rattle.pb_pair.specs.declared.known.Known.TheVariants.{Sure}

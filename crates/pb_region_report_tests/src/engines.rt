@@ -3,6 +3,7 @@ ghost use Rattle.std.specs.Prelude.{◌≡◌, true, OnOk};
 
 use pb_comb::Comb;
 use pb_engine::Engine;
+use pb_engines::AnyEngine;
 use pb_heap::MinHeap;
 use pb_image::Image;
 use pb_map::RegMap;
@@ -10,7 +11,6 @@ use pb_object::{Kind, Object};
 use pb_pair::{Pair, Why};
 use pb_pmem::DeviceFault;
 use pb_queue::TwinQueue;
-use pb_engines::AnyEngine;
 use pb_report::Outcome;
 use pb_run::run_script;
 use pb_script::parse_script;

@@ -2,7 +2,6 @@
 use Rattle.std.specs.Prelude.{◌≡◌, ℕ, ◌+◌, Bool, true, false, List, [], ◌∷◌, Option, Some, None, if◌then◌else◌, ◌==◌, nat_le, filter, length, Contains}
 use Rattle.std.specs.List.{zip, All}
 use Rattle.pb_object.specs.declared.request.Ask.{Ask}
-
 use Rattle.pb_object.specs.declared.request.Reply.{Reply}
 use Rattle.pb_object.specs.declared.request.Kept.{Kept as KeptRequest}
 use Rattle.pb_object.specs.History.{Entry, Round, History, kept_by}

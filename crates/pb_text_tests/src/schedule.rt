@@ -103,7 +103,12 @@ fn reads_each_event(rt: HostRuntime) {
         (b"open 2", repeated(Event::Reopen, 2)),
         (
             b"openfail fenced",
-            repeated(Event::ReopenFail { how: Leaves::Fenced }, 1),
+            repeated(
+                Event::ReopenFail {
+                    how: Leaves::Fenced,
+                },
+                1,
+            ),
         ),
     ];
     for (line, want) in &table {
