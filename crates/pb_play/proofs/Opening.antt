@@ -110,7 +110,7 @@ reads_region {old} {w} {calls} is s opening idle going none planned =
 
 -- Opening
 
-shows_open : {p : CodeMemory} {m : Memory} → ShowsMemory p m → ShowsMemory (code.opened p) (record m { owner = core.Free; engine = core.Resting })
+shows_open : {p : CodeMemory} {m : Memory} → ShowsMemory p m → ShowsMemory (code.with_region_open p) (record m { owner = core.Free; engine = core.Resting })
 shows_open s = record {
   head = s.head;
   valid = s.valid;
@@ -140,7 +140,7 @@ done_by NoCall done = absurd (done tt)
 done_by (InCall entry made []) done = record { entry = entry; made = made; at = refl }
 done_by (InCall entry made (op ∷ left)) done = absurd (done tt)
 
-pub opens_closed : {old : CodeWorld} {w : World} {memory : CodeMemory} {calls : Calls} → ShowsWorld old w → ¬ IsReopening w → w.memory.owner ≡ core.Closed → memory ≡ code.opened old.memory → calls ≡ record (old.calls) { going = false } → IsOpened w (record old { memory = memory; calls = calls })
+pub opens_closed : {old : CodeWorld} {w : World} {memory : CodeMemory} {calls : Calls} → ShowsWorld old w → ¬ IsReopening w → w.memory.owner ≡ core.Closed → memory ≡ code.with_region_open old.memory → calls ≡ record (old.calls) { going = false } → IsOpened w (record old { memory = memory; calls = calls })
 opens_closed {old} {w} {memory} {calls} s done closed memory_is calls_is =
     let all : IsDone w.progress = done_by w.progress (λ o. done (subst (λ (x : Owner). IsOpening x w.progress) (sym closed) o)) in
     record {

@@ -248,13 +248,13 @@ counted_is : (count : ℕ) → count + 1 ≤ last_count → count + 1 ≡ counte
 counted_is count fits = omega (arith, fits)
 
 -- the counts of rounds after one more
-pub shows_rounds : (s : Standing) (round : Round) (rounds : Rounds) → IsLegalRound s round → length s.rounds ≡ side_count s.kind → ((side : ℕ) → rounds_of (after_round s round) side ≤ last_count) → ShowsRounds s rounds → ShowsRounds (after_round s round) (round_counts.with_round round.side rounds)
+pub shows_rounds : (s : Standing) (round : Round) (rounds : Rounds) → IsLegalRound s round → length s.rounds ≡ side_count s.kind → ((side : ℕ) → rounds_of (after_round s round) side ≤ last_count) → ShowsRounds s rounds → ShowsRounds (after_round s round) (round_counts.with_side_counted round.side rounds)
 shows_rounds s round rounds legal sides fits shows = go round.side refl
   where
     own : (side : ℕ) → round.side ≡ side → rounds_of (after_round s round) side ≡ rounds_of s side + 1
     own side is = subst (λ (e : ℕ). rounds_of (after_round s round) e ≡ rounds_of s e + 1) is (next_rounds s round legal sides)
 
-    go : (side : ℕ) → round.side ≡ side → ShowsRounds (after_round s round) (round_counts.with_round side rounds)
+    go : (side : ℕ) → round.side ≡ side → ShowsRounds (after_round s round) (round_counts.with_side_counted side rounds)
     go zero is = record {
       first = own 0 is ∙ (counted_is (rounds_of s 0) (omega (arith, own 0 is, fits 0)) ∙ ap counted shows.first);
       second = next_rounds_other s round 1 (λ same. absurd (omega (arith, same, is))) ∙ shows.second;
@@ -269,7 +269,7 @@ shows_rounds s round rounds legal sides fits shows = go round.side refl
     }
 
 -- what is shown once a round is published
-shows_published : {p : CodeMemory} {m : Memory} (round : Round) → ShowsMemory p m → IsMemory m → FitsWords m → m.ahead ≡ Some round → ShowsMemory (code.with_published p) (with_published round m)
+shows_published : {p : CodeMemory} {m : Memory} (round : Round) → ShowsMemory p m → IsMemory m → FitsWords m → m.ahead ≡ Some round → ShowsMemory (code.with_round_published p) (with_published round m)
 shows_published {p} {m} round s sound fits ahead =
     let legal : IsLegalRound (shown m) round = subst (λ (a : Option Round). IfSome a (IsLegalRound (shown m))) ahead sound.history.next in
     let few : (side : ℕ) → rounds_of (after_round (shown m) round) side ≤ last_count = λ side. subst (λ (a : Option Round). rounds_of (with_round_ahead a (shown m)) side ≤ last_count) ahead (fits.rounds side) in
@@ -302,7 +302,7 @@ ahead_some (Some round) some = (round, refl)
 all_filled : {m : Memory} (count : ℕ) → IsMemory m → m.work ≡ core.Filling count → clients_of m ≤ count / 4 → m.work ≡ core.Filling (4 * clients_of m)
 all_filled {m} count sound works full = works ∙ ap core.Filling (omega (arith, full, (the_filled count sound works).few))
 
-pub publishes_own : {old new : CodeMemory} {answer : Stepped} (c side count : ℕ) → old.owner ≡ Held c side → old.work ≡ Filling count → old.head.clients ≤ count / 4 → (seat_of old c).ahead.number ≡ (seat_of old c).ask.number → new ≡ is_answered c (code.with_published old) → answer ≡ Done (seat_of old c).ask (seat_of old c).ahead.reply → MakesWordStep old c new answer
+pub publishes_own : {old new : CodeMemory} {answer : Stepped} (c side count : ℕ) → old.owner ≡ Held c side → old.work ≡ Filling count → old.head.clients ≤ count / 4 → (seat_of old c).ahead.number ≡ (seat_of old c).ask.number → new ≡ is_answered c (code.with_round_published old) → answer ≡ Done (seat_of old c).ask (seat_of old c).ahead.reply → MakesWordStep old c new answer
 publishes_own {old} c side count owned at full same after says m s sound fits running within =
     let holds = holds_turn c side s owned in
     let works = works_at s at in
@@ -310,7 +310,7 @@ publishes_own {old} c side count owned at full same after says m s sound fits ru
     let row = known_row count c s sound holds works within in
     let before = s.clients c within in
     let reply : Reply = (newest_of (known_standing m) c).reply in
-    word_step c (is_answered c (code.with_published old))
+    word_step c (is_answered c (code.with_round_published old))
     (shows_client c (record (seat_of old c) { stage = Idle; last = (seat_of old c).ask.number }) (answered reply (suc (length m.published)) (m.book c)) (m.answers ++ entry_by (m.book c).ask reply ∷ [])
     (shows_published some.0 s sound fits some.1) within
     (record {
@@ -338,14 +338,14 @@ publishes_own {old} c side count owned at full same after says m s sound fits ru
     })
     after
 
-pub publishes_others : {old new : CodeMemory} {answer : Stepped} (c side count : ℕ) → old.owner ≡ Held c side → old.work ≡ Filling count → old.head.clients ≤ count / 4 → (seat_of old c).ahead.number ≢ (seat_of old c).ask.number → new ≡ goes_to c Looking (code.with_published old) → answer ≡ Busy (seat_of old c).ask (old.turn - 1) (counted old.turn) → MakesWordStep old c new answer
+pub publishes_others : {old new : CodeMemory} {answer : Stepped} (c side count : ℕ) → old.owner ≡ Held c side → old.work ≡ Filling count → old.head.clients ≤ count / 4 → (seat_of old c).ahead.number ≢ (seat_of old c).ask.number → new ≡ goes_to c Looking (code.with_round_published old) → answer ≡ Busy (seat_of old c).ask (old.turn - 1) (counted old.turn) → MakesWordStep old c new answer
 publishes_others {old} c side count owned at full other after says m s sound fits running within =
     let holds = holds_turn c side s owned in
     let works = works_at s at in
     let some = ahead_some m.ahead (work_suits (core.Filling count) sound holds works).1 in
     let row = known_row count c s sound holds works within in
     let before = s.clients c within in
-    word_step c (goes_to c Looking (code.with_published old))
+    word_step c (goes_to c Looking (code.with_round_published old))
     (shows_stage c Looking (record (m.book c) { stage = client.Looking; front = suc (length m.published) }) (shows_published some.0 s sound fits some.1) within refl refl refl)
     (record {
       running = running;

@@ -47,7 +47,7 @@ use Rattle.pb_round_play.specs.Rounds.{StepsQueue}
 
 -- The cells
 
-same_puts : (head : Header) (from : ℕ) (items : List ℕ) → core.cell_ops head (puts_at from items) ≡ puts_from head from items
+same_puts : (head : Header) (from : ℕ) (items : List ℕ) → core.ops_of_puts head (puts_at from items) ≡ puts_from head from items
 same_puts head from [] = sym (puts_from-none head from)
 same_puts head from (item ∷ items) = ap (λ (l : List LogOp). put_ops head from item ++ l) (same_puts head (suc from) items) ∙ sym (puts_from-more head from item items)
 
@@ -59,7 +59,7 @@ free_puts size queue from (item ∷ items) after near = ((after, omega (arith, n
 record HasPuts (head : Header) (before after : State) : Type 0 where
   puts : List Put
   its_own : puts ≡ puts_between before after
-  are : core.cell_ops head puts ≡ cell_ops head (next_position before) after
+  are : core.ops_of_puts head puts ≡ cell_ops head (next_position before) after
   free : AreFreePositions before puts
 
 no_puts : (head : Header) (before after : State) → puts_between before after ≡ [] → cell_ops head (next_position before) after ≡ [] → HasPuts head before after
@@ -242,7 +242,7 @@ is_played_plan {tale} s round next plan stands is listed step planned = record {
   listed = listed;
   is = planned
       ∙ ap (λ (l : List LogOp). l ++ store_over (header_for s) round.side (rounds_of s round.side) (Some (record_in_use (contents tale.base tale.log) (header_for s) round.side (rounds_of s round.side + 1))) next)
-      (sym found.are ∙ ap (core.cell_ops (header_for s)) found.its_own);
+      (sym found.are ∙ ap (core.ops_of_puts (header_for s)) found.its_own);
 }
   where
     found : HasPuts (header_for s) s.state (after_round s round).state

@@ -149,4 +149,4 @@ free_stays from items old new position put free = record {
     tail_by head first second = Rattle.pb_pair.specs.Cells.tail_in (record old { head = head; first = first; second = second })
 
     taken_by : Header → SideView → SideView → ℕ
-    taken_by head first second = Rattle.pb_pair.specs.Cells.taken_in (record old { head = head; first = first; second = second })
+    taken_by head first second = Rattle.pb_pair.specs.Cells.taken_by_records (record old { head = head; first = first; second = second })

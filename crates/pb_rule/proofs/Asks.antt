@@ -7,7 +7,7 @@ use Rattle.pb_object.specs.declared.kind.Kind.{Kind}
 use Rattle.pb_object.specs.declared.request.Ask.{Ask}
 use Rattle.pb_object.specs.Request.{IsOperation}
 use Rattle.pb_object.specs.Standing.{newest}
-use Rattle.pb_core.specs.declared.event.Stepped.TheVariants.{Went}
+use Rattle.pb_events.specs.declared.event.Stepped.TheVariants.{Went}
 use Rattle.pb_core.specs.Client.{Stage, Idle, Storing, Looking, Client, is_idle, is_holding, ask_word}
 use Rattle.pb_core.specs.Memory.{Memory, with_at, with_client}
 use Rattle.pb_core.specs.MemoryRun.{asked as asked_move, stepped}

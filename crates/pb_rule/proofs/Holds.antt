@@ -10,7 +10,7 @@ use Rattle.pb_object.specs.declared.kind.Kind.{Kind}
 use Rattle.pb_object.specs.declared.request.Ask.{Ask}
 use Rattle.pb_object.specs.Standing.{Standing, newest_of}
 use Rattle.pb_pmem.specs.Count.{Rose}
-use Rattle.pb_core.specs.declared.event.Stepped.TheVariants.{Went}
+use Rattle.pb_events.specs.declared.event.Stepped.TheVariants.{Went}
 use Rattle.pb_core.specs.Client.{Client, is_idle, is_announced, row_word}
 use Rattle.pb_core.specs.HolderMoves.{round_by, Begins}
 use Rattle.pb_core.specs.Laws.{AreDue}

@@ -4,7 +4,7 @@ use Rattle.atomic_table.specs.Table.{State}
 use Rattle.pb_object.specs.declared.kind.Kind.{Kind}
 use Rattle.pb_object.specs.History.{Round}
 use Rattle.pb_object.specs.Standing.{Standing}
-use Rattle.pb_core.specs.declared.event.Stepped.{Stepped}
+use Rattle.pb_events.specs.declared.event.Stepped.{Stepped}
 use Rattle.pb_core.specs.HolderMoves.{HolderMove, beginning, recording, settling_none, settling_round, failing_settling, failing_before, failing_after}
 use Rattle.pb_core.specs.Memory.{Engine, Resting, Recorded, Writing, Doubtful, Memory, shown, known_standing, known_by, with_round_ahead, clients_of}
 use Rattle.pb_core.specs.MemoryRun.{begun, MemoryMove, asked, stepped, called, MemoryRun}

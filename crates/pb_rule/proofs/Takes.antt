@@ -13,7 +13,7 @@ use Rattle.pb_object.specs.declared.request.Ask.{Ask}
 use Rattle.pb_object.specs.declared.request.TheConstants.{LAST_NUMBER}
 use Rattle.pb_object.specs.declared.limits.TheConstants.{MOST_CLIENTS}
 use Rattle.pb_layout_laws.proofs.FewRounds.{legal_few}
-use Rattle.pb_core.specs.declared.event.Stepped.TheVariants.{Went}
+use Rattle.pb_events.specs.declared.event.Stepped.TheVariants.{Went}
 use Rattle.pb_core.specs.Client.{Looking, Taking, Holding, is_holding}
 use Rattle.pb_core.specs.Memory.{Owner, Free, Held, AtNumber, Work, Settling, Scanning, Engine, Resting, Recorded, Doubtful, Memory, clients_of, side_of_operation, round_of_turn, NoWork}
 use Rattle.pb_core.specs.MemoryParts.{IsMemory}
