@@ -61,7 +61,7 @@ pub fn open(world: &mut World)
     ensures shaped { IsBuilt world.new }
     ensures device { world.new.device ≡ world.old.device }
     ensures head { world.new.memory.head ≡ world.old.memory.head }
-    ensures with_region_open { (w : CoreWorld) → ShowsWorld world.old w → ¬ IsReopening w → IsOpened w world.new }
+    ensures opened { (w : CoreWorld) → ShowsWorld world.old w → ¬ IsReopening w → IsOpened w world.new }
 {
     match world.memory.owner {
         Owner::Free => {}
