@@ -1,6 +1,7 @@
 -- What a pass and a shared object are to contracts.
 use Rattle.std.specs.Prelude.{◌≡◌, ℕ, ◌+◌, ◌<◌, ◌≤◌, List, [], ◌∷◌, map, All, Option, Some, None}
 use Rattle.atomic_table.specs.Seated.{TableId}
+use Rattle.pb_object.specs.declared.kind.Kind.{Kind}
 use Rattle.pb_object.specs.declared.request.Ask.{Ask}
 use Rattle.pb_object.specs.declared.request.Kept.{Kept as KeptRequest}
 use Rattle.pb_object.specs.declared.request.Op.{Op}
@@ -40,8 +41,9 @@ pub record IsPass {X : Type 0} (table : TableId) (me : Seated X) (client : ℕ) 
   pub list : kept ≡ (the_view me).body.kept
   pub pends : PendsAs pending (the_view me)
 
--- the table of a shared object has a word for each place of its clients, and one slot
-pub record IsShared (table : TableId) (start : EngineView) (clients : ℕ) : Type 0 where
+-- the table of a shared object has a word for each place of its clients, and one slot; its clients and its kind are those of the engine
+pub record IsShared (table : TableId) (start : EngineView) (kind : Kind) (clients : ℕ) : Type 0 where
+  pub kind_is : kind ≡ start.standing.kind
   pub all : clients ≡ start.standing.clients
   pub few : clients ≤ 16
   pub some : 1 ≤ clients

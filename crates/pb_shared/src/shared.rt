@@ -9,7 +9,7 @@ use crate::passes::{add_passes, all_lists, join_all, pending_number};
 use crate::tries::make_try;
 use crossbeam_utils::Backoff;
 use pb_engine::Engine;
-use pb_object::{Ask, Op};
+use pb_object::{Ask, Kind, Op};
 use pb_rule::opening::{Words, make_table, take_engine};
 use std::alloc::{AllocError, Global};
 use std::marker::Model;
@@ -19,6 +19,7 @@ use std::sync::Wait;
 #[derive(Drop)]
 pub struct Shared<E: Engine> {
     table: Words<E>,
+    kind: Kind,
     clients: u32,
 }
 
@@ -29,7 +30,7 @@ impl<E: Engine> Model for Shared<E> {
 
     ghost view = { λ s. record { table = s.table.shared.table_id; start = E.seen s.table.shared.key.value } };
 
-    ghost invariant = { λ s. IsShared s.table.shared.table_id (E.seen s.table.shared.key.value) s.clients };
+    ghost invariant = { λ s. IsShared s.table.shared.table_id (E.seen s.table.shared.key.value) s.kind s.clients };
 }
 
 impl<E: Engine> Shared<E> {
@@ -49,6 +50,7 @@ impl<E: Engine> Shared<E> {
         ensures all { IfOk result (λ opened. AreAll opened.0 opened.1.items) }
         ensures err { IfErr result (λ refused. refused.1 ≡ engine) }
     {
+        let kind = engine.kind();
         let clients = engine.clients();
         let Ok(lists) = all_lists(alloc, &engine, clients) else {
             return Err((AllocError, engine));
@@ -58,7 +60,19 @@ impl<E: Engine> Shared<E> {
         };
         let (table, seat) = make_table(alloc, engine)?;
         add_passes(&table.shared, seat, clients, lists.as_slice(), &mut passes);
-        Ok((Shared { table, clients }, passes))
+        let shared = Shared {
+            table,
+            kind,
+            clients,
+        };
+        Ok((shared, passes))
+    }
+
+    /// The object's kind: which operations may be announced.
+    pub fn kind(&self) -> Kind
+        ensures { result ≡ self.now.start.standing.kind }
+    {
+        self.kind
     }
 
     /// Announces the pass's next request, and answers its number.
@@ -143,7 +157,11 @@ impl<E: Engine> Shared<E> {
         requires all { AreAll self passes.items }
         ensures { HasEnded self.start.standing.kind self.start (E.seen result) (map view_of passes.items) }
     {
-        let Shared { table, clients: _ } = self;
+        let Shared {
+            table,
+            kind: _,
+            clients: _,
+        } = self;
         let seat = join_all(&table.shared, passes);
         take_engine(table, seat)
     }

@@ -2,7 +2,7 @@
 ghost use Rattle.pb_shared.specs.Passes.{IsOf};
 
 use crate::rows::MapEngine;
-use pb_object::{Kind, LAST_NUMBER, Op, is_operation};
+use pb_object::{LAST_NUMBER, Op, is_operation};
 use pb_shared::{Again, Attempt, OpenGate, Pass, Performed, Shared};
 use std::process::Abort;
 use std::sync::Wait;
@@ -18,7 +18,7 @@ pub fn announce(
     ensures { IsOf object.now pass.new }
 {
     assert!(rt; pass.pending().is_none());
-    assert!(rt; is_operation(Kind::Map, op));
+    assert!(rt; is_operation(object.kind(), op));
     assert!(rt; pass.last().number < LAST_NUMBER);
     object.announce(pass, op)
 }
@@ -44,7 +44,7 @@ pub fn again(
     ensures { IsOf object.now pass.new }
 {
     assert!(rt; pass.pending().is_none());
-    assert!(rt; is_operation(Kind::Map, op));
+    assert!(rt; is_operation(object.kind(), op));
     assert!(rt; 1 <= number && number <= LAST_NUMBER);
     object.again(pass, number, op)
 }

@@ -7,7 +7,7 @@ use crate::held_device::HeldDevice;
 use crate::maps::{held, map};
 use pb_comb::Comb;
 use pb_map::RegMap;
-use pb_object::{Action, Answer, Kind, LAST_NUMBER, Op, Reply, is_operation};
+use pb_object::{Action, Answer, LAST_NUMBER, Op, Reply, is_operation};
 use pb_shared::{Attempt, Pass, Shared};
 use std::alloc::Global;
 use std::process::Abort;
@@ -61,7 +61,7 @@ fn announce(rt: &impl Abort, object: &Shared<HeldMap>, pass: &mut Pass<HeldMap>)
     let key = u64::from(pass.client());
     let op = put(key, 5);
     assert!(rt; pass.pending().is_none());
-    assert!(rt; is_operation(Kind::Map, &op));
+    assert!(rt; is_operation(object.kind(), &op));
     assert!(rt; pass.last().number < LAST_NUMBER);
     object.announce(pass, &op);
 }
